@@ -1,7 +1,7 @@
 -- Settings, followed by the rest of the command line.
 use Rattle.std.proofs.Common.{◌≡◌, refl, ◌∙◌, sym, ap, cond, ℕ, Bool, true, false, List, [], ◌∷◌, ◌++◌, append_assoc}
 use Rattle.std.specs.Prelude.{Option, None, Some, option_map, option_and_then}
-use Rattle.command_line.specs.Words.{GivenOption, Line, are_single, split_line, form_of, if_single, job_in, line_of_words, with_setting}
+use Rattle.command_line.specs.Words.{GivenOption, Line, are_single, split_line, job_of, if_single, job_in, line_of_words, with_setting}
 
 abbrev pub with_all : List GivenOption → Line → Line
 with_all ss line = record line { settings = ss ++ line.settings }
@@ -26,6 +26,6 @@ line_parts words l e = go (split_line words) e
     go None same = cc
     go (Some m) same = kept m (are_single m.settings) refl same
 
-pub form_made : (words : List (List ℕ)) (l : Line) → line_of_words words ≡ Some l → form_of words ≡ job_in l
-unfolding form_of
-form_made words l e = ap (option_and_then job_in) e
+pub job_made : (words : List (List ℕ)) (l : Line) → line_of_words words ≡ Some l → job_of words ≡ job_in l
+unfolding job_of
+job_made words l e = ap (option_and_then job_in) e

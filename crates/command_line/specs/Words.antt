@@ -181,17 +181,5 @@ abbrev pub line_of_words : List (List ℕ) → Option Line
 line_of_words words = option_and_then if_single (split_line words)
 
 -- the job that the words ask for; None if they do not match the usage
-unfoldable pub form_of : List (List ℕ) → Option Job
-form_of words = option_and_then job_in (line_of_words words)
-
--- the jobs that are implemented: those with one worker
-abbrev pub is_supported : Job → Bool
-is_supported job = nat_eq job.workers 1
-
--- the job, if it is implemented
-abbrev pub if_supported : Job → Option Job
-if_supported job = if is_supported job then Some job else None
-
--- the job that the words ask for, if it is implemented
 unfoldable pub job_of : List (List ℕ) → Option Job
-job_of words = option_and_then if_supported (form_of words)
+job_of words = option_and_then job_in (line_of_words words)

@@ -3,11 +3,11 @@
 ghost use Rattle.std.specs.Prelude.{◌≡◌, ℕ, List, ◌∷◌, [], codes, true, false, Some, None};
 ghost use Rattle.sessions.specs.Plans.{NoGc, MarkSweep, SemiSpace, Immix, GenCopy, StickyImmix};
 ghost use Rattle.command_line.specs.Spelling.{SpellsLine};
-ghost use Rattle.command_line.specs.Words.{Line, GivenOption, split_line, form_of, job_of, Files, Made};
+ghost use Rattle.command_line.specs.Words.{Line, GivenOption, split_line, job_of, Files, Made};
 
 /// Examples: the jobs that command lines name.
 pub fn worked_command_lines()
-    ensures words { form_of (codes "--plan" ∷ codes "nogc" ∷ codes "--heap" ∷ codes "4"
+    ensures words { job_of (codes "--plan" ∷ codes "nogc" ∷ codes "--heap" ∷ codes "4"
         ∷ codes "a" ∷ []) ≡ Some (record {
           plan = NoGc;
           blocks = 4;
@@ -15,7 +15,7 @@ pub fn worked_command_lines()
           map = false;
           work = Files (codes "a" ∷ []);
         }) }
-    ensures joined { form_of (codes "--heap=4" ∷ codes "--plan=immix" ∷ codes "a" ∷ [])
+    ensures joined { job_of (codes "--heap=4" ∷ codes "--plan=immix" ∷ codes "a" ∷ [])
         ≡ Some (record {
           plan = Immix;
           blocks = 4;
@@ -23,7 +23,7 @@ pub fn worked_command_lines()
           map = false;
           work = Files (codes "a" ∷ []);
         }) }
-    ensures mixed { form_of (codes "--map" ∷ codes "--workers=16" ∷ codes "--heap"
+    ensures mixed { job_of (codes "--map" ∷ codes "--workers=16" ∷ codes "--heap"
         ∷ codes "1024" ∷ codes "--plan=gencopy" ∷ codes "a" ∷ codes "b=c" ∷ [])
         ≡ Some (record {
           plan = GenCopy;
@@ -32,7 +32,7 @@ pub fn worked_command_lines()
           map = true;
           work = Files (codes "a" ∷ codes "b=c" ∷ []);
         }) }
-    ensures made { form_of (codes "--make" ∷ codes "1000000" ∷ codes "--plan"
+    ensures made { job_of (codes "--make" ∷ codes "1000000" ∷ codes "--plan"
         ∷ codes "stickyimmix" ∷ codes "--heap=64" ∷ [])
         ≡ Some (record {
           plan = StickyImmix;
@@ -41,25 +41,39 @@ pub fn worked_command_lines()
           map = false;
           work = Made 1000000;
         }) }
-    ensures nothing { form_of [] ≡ None }
-    ensures help { form_of (codes "--help" ∷ []) ≡ None }
-    ensures no_plan { form_of (codes "--heap" ∷ codes "4" ∷ codes "a" ∷ []) ≡ None }
-    ensures other_plan { form_of (codes "--plan" ∷ codes "lisp2" ∷ codes "--heap" ∷ codes "4"
+    ensures nothing { job_of [] ≡ None }
+    ensures help { job_of (codes "--help" ∷ []) ≡ None }
+    ensures no_plan { job_of (codes "--heap" ∷ codes "4" ∷ codes "a" ∷ []) ≡ None }
+    ensures other_plan { job_of (codes "--plan" ∷ codes "lisp2" ∷ codes "--heap" ∷ codes "4"
         ∷ codes "a" ∷ []) ≡ None }
-    ensures no_file { form_of (codes "--plan" ∷ codes "immix" ∷ codes "--heap" ∷ codes "4"
+    ensures no_file { job_of (codes "--plan" ∷ codes "immix" ∷ codes "--heap" ∷ codes "4"
         ∷ []) ≡ None }
-    ensures small_heap { form_of (codes "--plan" ∷ codes "immix" ∷ codes "--heap" ∷ codes "3"
+    ensures small_heap { job_of (codes "--plan" ∷ codes "immix" ∷ codes "--heap" ∷ codes "3"
         ∷ codes "a" ∷ []) ≡ None }
-    ensures twice { form_of (codes "--plan" ∷ codes "immix" ∷ codes "--plan=immix"
+    ensures twice { job_of (codes "--plan" ∷ codes "immix" ∷ codes "--plan=immix"
         ∷ codes "--heap" ∷ codes "4" ∷ codes "a" ∷ []) ≡ None }
-    ensures both { form_of (codes "--plan" ∷ codes "immix" ∷ codes "--heap" ∷ codes "4"
+    ensures both { job_of (codes "--plan" ∷ codes "immix" ∷ codes "--heap" ∷ codes "4"
         ∷ codes "--make" ∷ codes "5" ∷ codes "a" ∷ []) ≡ None }
-    ensures after_a_file { form_of (codes "--plan" ∷ codes "immix" ∷ codes "a"
+    ensures after_a_file { job_of (codes "--plan" ∷ codes "immix" ∷ codes "a"
         ∷ codes "--heap" ∷ codes "4" ∷ []) ≡ None }
-    ensures empty_word { form_of (codes "--plan=immix" ∷ codes "--heap=4" ∷ [] ∷ [])
+    ensures empty_word { job_of (codes "--plan=immix" ∷ codes "--heap=4" ∷ [] ∷ [])
         ≡ None }
-    ensures unsupported { job_of (codes "--heap=4" ∷ codes "--plan=immix" ∷ codes "--workers=2"
+    ensures two_workers { job_of (codes "--heap=4" ∷ codes "--plan=immix" ∷ codes "--workers=2"
+        ∷ codes "a" ∷ []) ≡ Some (record {
+          plan = Immix;
+          blocks = 4;
+          workers = 2;
+          map = false;
+          work = Files (codes "a" ∷ []);
+        }) }
+    ensures no_worker { job_of (codes "--heap=4" ∷ codes "--plan=immix" ∷ codes "--workers=0"
         ∷ codes "a" ∷ []) ≡ None }
+    ensures many_workers { job_of (codes "--heap=4" ∷ codes "--plan=immix" ∷ codes "--workers"
+        ∷ codes "17" ∷ codes "a" ∷ []) ≡ None }
+    ensures leading_zero { job_of (codes "--heap=4" ∷ codes "--plan=immix" ∷ codes "--workers"
+        ∷ codes "01" ∷ codes "a" ∷ []) ≡ None }
+    ensures workers_twice { job_of (codes "--workers=1" ∷ codes "--heap=4" ∷ codes "--plan=immix"
+        ∷ codes "--workers=2" ∷ codes "a" ∷ []) ≡ None }
     ensures mapped { job_of (codes "--heap=4" ∷ codes "--plan=immix" ∷ codes "--map"
         ∷ codes "a" ∷ []) ≡ Some (record {
           plan = Immix;
@@ -116,7 +130,7 @@ pub fn worked_command_lines()
           map = false;
           work = Files (codes "a" ∷ []);
         }) }
-    ensures supported { job_of (codes "--heap=4" ∷ codes "--plan=nogc" ∷ codes "--workers"
+    ensures one_worker { job_of (codes "--heap=4" ∷ codes "--plan=nogc" ∷ codes "--workers"
         ∷ codes "1" ∷ codes "a" ∷ [])
         ≡ Some (record {
           plan = NoGc;

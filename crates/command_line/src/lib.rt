@@ -15,4 +15,4 @@ mod words;
 
 pub use laws::{spelled_command_lines, worked_command_lines};
 pub use order::{MAX_FILES, MAX_WORKERS, Order, PlanName, Target};
-pub use words::{read_form, read_words};
+pub use words::read_words;

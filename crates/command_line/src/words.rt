@@ -1,7 +1,7 @@
 //! The order that the words of the command line ask for.
 
 ghost use Rattle.std.specs.Prelude.{◌≡◌, IfOk, option_map};
-ghost use Rattle.command_line.specs.Words.{form_of, is_supported as can_run, job_for, job_of};
+ghost use Rattle.command_line.specs.Words.{job_for, job_of};
 ghost use Rattle.command_line.specs.Orders.{job_of_order, texts, values_seen};
 
 use crate::clap_values::{Found, read_values};
@@ -28,12 +28,13 @@ fn order_of<'a>(found: &Found<'a>, files: &'a [String]) -> Option<Order<'a>>
     })
 }
 
-/// The order that the words ask for, implemented or not. `None` if they do not match the usage.
+/// What the arguments after the program's name ask for. `None` if they do not match the usage. The
+/// order borrows the names of its files from the arguments.
 ///
 /// Errors: out of memory.
-#[tactic(auto, unfolding(crate::specs::Words::form_of))]
-pub fn read_form<'a>(alloc: Global, words: &'a [String]) -> Result<Option<Order<'a>>, AllocError>
-    ensures { IfOk result (λ r. option_map job_of_order r ≡ form_of (texts words.now)) }
+#[tactic(auto, unfolding(crate::specs::Words::job_of))]
+pub fn read_words<'a>(alloc: Global, words: &'a [String]) -> Result<Option<Order<'a>>, AllocError>
+    ensures { IfOk result (λ r. option_map job_of_order r ≡ job_of (texts words.now)) }
 {
     let Some(parts) = split_words(alloc, words)? else {
         return Ok(None);
@@ -43,32 +44,4 @@ pub fn read_form<'a>(alloc: Global, words: &'a [String]) -> Result<Option<Order<
     }
     let found = read_values(alloc, words)?;
     Ok(order_of(&found, parts.files))
-}
-
-// Whether the order is implemented: with one worker.
-fn is_supported(order: &Order) -> bool
-    ensures { result ≡ can_run (job_of_order order.now) }
-{
-    order.workers == 1
-}
-
-/// What the arguments after the program's name ask for.
-///
-/// `None` if the arguments do not match the usage, or ask for a feature that is not implemented
-/// yet: several workers. The order borrows the names of its files from the
-/// arguments.
-///
-/// Errors: out of memory.
-#[tactic(auto, unfolding(crate::specs::Words::job_of))]
-pub fn read_words<'a>(alloc: Global, words: &'a [String]) -> Result<Option<Order<'a>>, AllocError>
-    ensures { IfOk result (λ r. option_map job_of_order r ≡ job_of (texts words.now)) }
-{
-    let Some(order) = read_form(alloc, words)? else {
-        return Ok(None);
-    };
-    if is_supported(&order) {
-        Ok(Some(order))
-    } else {
-        Ok(None)
-    }
 }

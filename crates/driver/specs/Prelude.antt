@@ -1,6 +1,6 @@
 -- The names of other crates that the contracts cite, passed on from one place. Declares nothing.
 pub use Rattle.command_line.specs.Orders.{job_of_order, texts}
-pub use Rattle.command_line.specs.Words.{Files, Job, Made, Work, is_supported, job_of}
+pub use Rattle.command_line.specs.Words.{Files, Job, Made, Work, job_of}
 pub use Rattle.driver.specs.Exits.{IsExit, IsReported, Ran, refusal, refusal_line}
 pub use Rattle.driver.specs.LiveNames.{AreLiveNames, count_words_named, heap_alone, ideal_live_line, record_size}
 pub use Rattle.driver.specs.Printed.{AreTraces, AreTracesOf, AsksFirst, AsksPrefix, Content, EndsAtKnown, HasFault, HasTraces, IsBad, IsLong, IsNoTrace, IsTooLong, IsTraceIn, IsUsage, IsWholeText, IsWithinLimits, Prints, PrintsPrefix, Unread, WritesFaultLine, fault_line, file_line, job_files, line_fault, long_line, memory_line, setting_of, unread_line, usage_line, why_word, write_line}

@@ -1,17 +1,17 @@
 //! The text that a session prints.
 
-ghost use Rattle.std.specs.Prelude.{◌≡◌, ◌≤◌, ℕ, All, length, IfOk, true};
-ghost use Rattle.driver.specs.Prelude.{Setting, Moment, IsWhole, job_of_order, is_supported, Closes, ClosesSome, IsRunnableTrace, IsManaged, replies_part, IsWholeText};
+ghost use Rattle.std.specs.Prelude.{◌≡◌, ◌≤◌, ℕ, All, length, IfOk};
+ghost use Rattle.driver.specs.Prelude.{Setting, Moment, IsWhole, job_of_order, Closes, ClosesSome, IsRunnableTrace, IsManaged, replies_part, IsWholeText};
 
 use crate::report::session_text;
 use crate::summary::summary_text;
-use command_line::{Order, PlanName, Target};
+use command_line::{MAX_WORKERS, Order, PlanName, Target};
 use heap_layout::{Layout, MAX_BLOCKS, MIN_BLOCKS};
 use ideal_heap::MAX_MUTATORS;
 use mm_runtime::{Manager, Scheduler, Turn, managed_plans};
 use plan_api::Plan;
 use plans::{GenCopy, Immix, MarkSweep, NoGc, SemiSpace, StickyImmix};
-use pools::PlainPool;
+use pools::StealPool;
 use std::alloc::{AllocError, Global};
 use std::thread::Threads;
 use stored_commands::StoredTrace;
@@ -20,22 +20,25 @@ use work_packets::Gate;
 
 // Runs the traces to their end, under a plan.
 fn run_to_end<P: Plan, G: Gate, R: Threads + Sync>(
-    scheduler: &Scheduler<'_, R, PlainPool, G>,
+    scheduler: &Scheduler<'_, R, StealPool, G>,
     alloc: Global,
     layout: Layout,
+    workers: u32,
     traces: Vec<StoredTrace>,
 ) -> Result<Manager<P>, AllocError>
     requires plan { IsManaged P.rules }
     requires some { 1 ≤ length traces.items }
     requires few { length traces.items ≤ MAX_MUTATORS }
     requires fit { All IsRunnableTrace traces.items }
+    requires some_worker { 1 ≤ workers }
+    requires few_workers { workers ≤ MAX_WORKERS }
     ensures ready { IfOk result (λ m. ClosesSome P.rules m) }
     ensures whole { (t : Setting) → t.rules ≡ P.rules → t.blocks ≡ layout.blocks
-        → t.workers ≡ 1 → t.traces ≡ traces.items
+        → t.workers ≡ workers → t.traces ≡ traces.items
         → IfOk result (λ m. (last : Moment) × IsWhole t last × Closes P.rules m t last) }
 {
     let Scheduler { rt, pool, gate } = *scheduler;
-    let mut manager = Manager::<P>::begin_stored(alloc, layout, traces, 1)?;
+    let mut manager = Manager::<P>::begin_stored(alloc, layout, traces, workers)?;
     'epochs: loop {
         let (next, turn) = manager.advance(rt, pool, gate)?;
         manager = next;
@@ -63,7 +66,7 @@ pub(crate) fn text_of_replies<P: Plan>(
 
 // The text of a whole session of an order under a plan.
 fn text_under<P: Plan, G: Gate, R: Threads + Sync>(
-    scheduler: &Scheduler<'_, R, PlainPool, G>,
+    scheduler: &Scheduler<'_, R, StealPool, G>,
     alloc: Global,
     layout: Layout,
     order: &Order,
@@ -73,19 +76,20 @@ fn text_under<P: Plan, G: Gate, R: Threads + Sync>(
     requires some { 1 ≤ length traces.items }
     requires few { length traces.items ≤ MAX_MUTATORS }
     requires fit { All IsRunnableTrace traces.items }
+    requires some_worker { 1 ≤ order.now.workers }
+    requires few_workers { order.now.workers ≤ MAX_WORKERS }
     ensures { (job_of_order order.now).plan ≡ P.plan
-        → (job_of_order order.now).blocks ≡ layout.blocks → (job_of_order order.now).workers ≡ 1
+        → (job_of_order order.now).blocks ≡ layout.blocks
         → IfOk result (λ v. IsWholeText (job_of_order order.now) traces.items v.items) }
 {
-    let manager = run_to_end::<P, G, R>(scheduler, alloc, layout, traces)?;
+    let manager = run_to_end::<P, G, R>(scheduler, alloc, layout, order.workers, traces)?;
     match order.work {
         Target::Files(_) => session_text::<P>(alloc, &manager, order.map),
         Target::Made(commands) => summary_text::<P>(alloc, &manager, commands),
     }
 }
 
-/// The text of a whole session of an order that is implemented: these are its traces, and it names
-/// the plan.
+/// The text of a whole session of an order: these are its traces, and it names the plan.
 ///
 /// Fails if memory runs out.
 pub(crate) fn text_of_session<G: Gate, R: Threads + Sync>(
@@ -95,7 +99,8 @@ pub(crate) fn text_of_session<G: Gate, R: Threads + Sync>(
     traces: Vec<StoredTrace>,
     gate: &G,
 ) -> Result<Vec<u8>, AllocError>
-    requires supported { is_supported (job_of_order order.now) ≡ true }
+    requires some_worker { 1 ≤ order.now.workers }
+    requires few_workers { order.now.workers ≤ MAX_WORKERS }
     requires least { MIN_BLOCKS ≤ order.now.blocks }
     requires most { order.now.blocks ≤ MAX_BLOCKS }
     requires some { 1 ≤ length traces.items }
@@ -106,7 +111,7 @@ pub(crate) fn text_of_session<G: Gate, R: Threads + Sync>(
     let layout = Layout::new(order.blocks).unwrap();
     let scheduler = Scheduler {
         rt,
-        pool: &PlainPool,
+        pool: &StealPool,
         gate,
     };
     managed_plans();

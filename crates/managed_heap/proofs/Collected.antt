@@ -15,7 +15,7 @@ use Rattle.sessions.specs.Sessions.{Setting, Moment, MakesCollection, birth_coun
 use Rattle.sessions.proofs.CountedCollections.{counts-one}
 use Rattle.sessions.proofs.CollectedMoments as moments
 use Rattle.sessions.proofs.SameStates.{HaveRegisters}
-use Rattle.collector.specs.Collected.{FillsIf}
+use Rattle.collector.specs.Collected.{FillsIf, LeavesFewBlocks}
 use Rattle.collector.specs.Tallies.{NotesIf}
 use Rattle.collector.specs.declared.outcome.Note.{Note}
 use Rattle.mutator_calls.specs.declared.need.Mutator.{Mutator}
@@ -56,8 +56,8 @@ module _ {P : Type 0} (rules : Rules) (kind : Collect) (old new : StoppedHeap P)
     collection-at =
         subst (λ (r : Rules). IsCollection r t.workers kind now.heap (roots_of now.mutators) (heap_state new.heap) (registers_of_heap new)) (sym at.rules_are)
         (subst (λ (w : ℕ). IsCollection rules w kind now.heap (roots_of now.mutators) (heap_state new.heap) (registers_of_heap new)) (sym at.workers)
-        (subst (λ (s : HeapState). IsCollection rules 1 kind s (roots_of now.mutators) (heap_state new.heap) (registers_of_heap new)) at.heap
-        (subst (λ (ms : List MutatorState). IsCollection rules 1 kind (heap_state old.heap) (roots_of ms) (heap_state new.heap) (registers_of_heap new)) at.mutators made.collection)))
+        (subst (λ (s : HeapState). IsCollection rules old.workers kind s (roots_of now.mutators) (heap_state new.heap) (registers_of_heap new)) at.heap
+        (subst (λ (ms : List MutatorState). IsCollection rules old.workers kind (heap_state old.heap) (roots_of ms) (heap_state new.heap) (registers_of_heap new)) at.mutators made.collection)))
 
     pub makes : MakesCollection t kind now (late now)
     makes = moments.makes-after t kind now (late now) at.sound collection-at new.heap.lawful (made.births ∙ ap (map birth_count) at.mutators)
@@ -66,9 +66,9 @@ module _ {P : Type 0} (rules : Rules) (kind : Collect) (old new : StoppedHeap P)
     pub stands : HeapStandsAt rules new t (late now)
     stands = record {
       rules_are = at.rules_are;
-      workers = at.workers;
+      workers = at.workers ∙ sym made.workers;
       blocks = at.blocks ∙ ap (λ (s : HeapState). s.blocks) (sym at.heap)
-          ∙ sym (counts-one rules 1 kind (heap_state old.heap) (heap_state new.heap) (registers_of_heap old) (registers_of_heap new) made.collection).1;
+          ∙ sym (counts-one rules old.workers kind (heap_state old.heap) (heap_state new.heap) (registers_of_heap old) (registers_of_heap new) made.collection).1;
       heap = refl;
       mutators = refl;
       nursery = refl;
@@ -90,8 +90,15 @@ module _ {P : Type 0} (rules : Rules) (kind : Collect) (old new : StoppedHeap P)
       let number : (heap_state old.heap).number ≡ old.nursery + old.full = order.number in
       let sum : new.nursery + new.full ≡ old.nursery + old.full + 1 = counts in
       let risen : (heap_state new.heap).number ≡ (heap_state old.heap).number + 1 =
-      (counts-one rules 1 kind (heap_state old.heap) (heap_state new.heap) (registers_of_heap old) (registers_of_heap new) made.collection).0 in
-      record { few = omega arith; notes = made.notes; flags = made.flags; number = omega arith }
+      (counts-one rules old.workers kind (heap_state old.heap) (heap_state new.heap) (registers_of_heap old) (registers_of_heap new) made.collection).0 in
+      record {
+        few = omega arith;
+        notes = made.notes;
+        flags = made.flags;
+        number = omega arith;
+        some_worker = subst (λ (w : ℕ). 1 ≤ w) (sym made.workers) order.some_worker;
+        few_workers = subst (λ (w : ℕ). w ≤ 16) (sym made.workers) order.few_workers;
+      }
 
   pub stopped-made : IsStopped rules old → IsStopped rules new
   stopped-made stopped = record {
@@ -134,28 +141,30 @@ collected-found {P = P} rules kind old new found note made rest known = subst (�
   collection = made.collection;
   noted = made.noted;
   fills = made.fills;
+  blocks = made.blocks;
   births = made.births;
   registers = made.registers;
   counts = made.counts;
   notes = own.notes;
   flags = own.flags;
+  workers = made.workers;
 })
   where
     own : AreKnown rules (heap_state new.heap) found.notes
     own = subst (λ (x : StoppedHeap P). AreKnown rules (heap_state x.heap) found.notes) rest known
 
 -- what a collection of these roots did, with its note
-abbrev Made : (rules : Rules) (kind : Collect) (s : HeapState) (from : List ℕ) (s' : HeapState) (to : List ℕ) (note : Note) → Type 0
-Made rules kind s from s' to note = (made : IsCollection rules 1 kind s from s' to) × NotesIf rules.collects rules 1 kind s from s' to made note
-    × FillsIf rules.collects rules 1 kind s from s' to made
+abbrev Made : (rules : Rules) (w : ℕ) (kind : Collect) (s : HeapState) (from : List ℕ) (s' : HeapState) (to : List ℕ) (note : Note) → Type 0
+Made rules w kind s from s' to note = (made : IsCollection rules w kind s from s' to) × NotesIf rules.collects rules w kind s from s' to made note
+    × FillsIf rules.collects rules w kind s from s' to made
 
 -- a collection of the registers, which are set to the targets of the roots
 pub has-collected : {P : Type 0} (rules : Rules) (kind : Collect) (old new : StoppedHeap P) (note : Note) (from to : List ℕ) → from ≡ registers_of_heap old → to ≡ registers_of_heap new
-    → Made rules kind (heap_state old.heap) from (heap_state new.heap) to note
+    → Made rules old.workers kind (heap_state old.heap) from (heap_state new.heap) to note → LeavesFewBlocks rules old.workers kind (heap_state old.heap) (heap_state new.heap) note
     → map birth_count (map mutator_state new.mutators.items) ≡ map birth_count (map mutator_state old.mutators.items) → AllByRecursion (λ u. length u.registers ≡ 16) new.mutators.items
-    → (new.nursery, new.full) ≡ counted kind old.nursery old.full → AreKnown rules (heap_state new.heap) new.notes → HasCollected rules kind old new note
-has-collected rules kind old new note from to read set whole births registers counts known =
-    let all : Made rules kind (heap_state old.heap) (registers_of_heap old) (heap_state new.heap) (registers_of_heap new) note =
-    subst (λ (l : List ℕ). Made rules kind (heap_state old.heap) l (heap_state new.heap) (registers_of_heap new) note) read
-    (subst (λ (l : List ℕ). Made rules kind (heap_state old.heap) from (heap_state new.heap) l note) set whole) in
-    record { collection = all.0; noted = all.1; fills = all.2; births = births; registers = registers; counts = counts; notes = known.notes; flags = known.flags }
+    → (new.nursery, new.full) ≡ counted kind old.nursery old.full → AreKnown rules (heap_state new.heap) new.notes → new.workers ≡ old.workers → HasCollected rules kind old new note
+has-collected rules kind old new note from to read set whole few births registers counts known workers =
+    let all : Made rules old.workers kind (heap_state old.heap) (registers_of_heap old) (heap_state new.heap) (registers_of_heap new) note =
+    subst (λ (l : List ℕ). Made rules old.workers kind (heap_state old.heap) l (heap_state new.heap) (registers_of_heap new) note) read
+    (subst (λ (l : List ℕ). Made rules old.workers kind (heap_state old.heap) from (heap_state new.heap) l note) set whole) in
+    record { collection = all.0; noted = all.1; fills = all.2; blocks = few; births = births; registers = registers; counts = counts; notes = known.notes; flags = known.flags; workers = workers }

@@ -31,7 +31,7 @@ module _ {P : Type 0} (rules : Rules) (old new : StoppedHeap P) (t : Setting) (n
   pub stands-after : HeapStandsAt rules new t (moment_of new (now.done ++ part))
   stands-after = record {
     rules_are = stands.rules_are;
-    workers = stands.workers;
+    workers = stands.workers ∙ sym ends.workers;
     blocks = stands.blocks ∙ sym ends.stopped.blocks;
     heap = refl;
     mutators = refl;
@@ -62,6 +62,8 @@ module _ {P : Type 0} (rules : Rules) (old new : StoppedHeap P) (t : Setting) (n
       few = subst (λ (n : ℕ). n ≤ 16) (sym count) order.few;
       notes = notes;
       flags = flags;
+      some_worker = subst (λ (w : ℕ). 1 ≤ w) (sym ends.workers) order.some_worker;
+      few_workers = subst (λ (w : ℕ). w ≤ 16) (sym ends.workers) order.few_workers;
       number = ends.stopped.number ∙ ap (λ (x : HeapState). x.number) (sym stands.heap) ∙ order.number
           ∙ ap (λ (n : ℕ). n + old.full) (sym ends.nursery) ∙ ap (λ (n : ℕ). new.nursery + n) (sym ends.full);
     };

@@ -29,16 +29,18 @@ module _ {P : Type 0} (rules : Rules) (h : StoppedHeap P) (blocks count : ℕ)
     (heap : heap_state h.heap ≡ empty_heap blocks) (notes : AreNotes rules.fill (heap_state h.heap) h.notes)
     (flags : NoneIsLogged rules (heap_state h.heap) → FlagsCover rules (heap_state h.heap) h.notes.flags.items)
     (mutators : map mutator_state h.mutators.items ≡ map new_mutator (range_with_len 1 count)) (as_many : length h.mutators.items ≡ count)
-    (nursery : h.nursery ≡ 0) (full : h.full ≡ 0) (few : count ≤ 16) where
+    (nursery : h.nursery ≡ 0) (full : h.full ≡ 0) (few : count ≤ 16) (some_worker : 1 ≤ h.workers) (few_workers : h.workers ≤ 16) where
   in-order : IsHeapInOrder rules h
   in-order = record {
     few = omega arith;
     notes = notes;
     flags = flags (none-logged rules blocks heap);
     number = (let e : (heap_state h.heap).number ≡ 0 = ap (λ (s : HeapState). s.number) heap in omega arith);
+    some_worker = some_worker;
+    few_workers = few_workers;
   }
 
-  pub stands-first : (t : Setting) → t.rules ≡ rules → t.workers ≡ 1 → t.blocks ≡ blocks → length t.traces ≡ count → HeapStandsAt rules h t (first_moment t)
+  pub stands-first : (t : Setting) → t.rules ≡ rules → t.workers ≡ h.workers → t.blocks ≡ blocks → length t.traces ≡ count → HeapStandsAt rules h t (first_moment t)
   stands-first t rules_are one blocks_are traces =
       let order = h.heap.lawful.but_lines.order.row in
       let as_blocks : (heap_state h.heap).blocks ≡ blocks = ap (λ (s : HeapState). s.blocks) heap in
@@ -57,5 +59,5 @@ module _ {P : Type 0} (rules : Rules) (h : StoppedHeap P) (blocks count : ℕ)
   pub stopped-first : IsStopped rules h
   stopped-first =
       let empties : List (List Command) = replicate count [] in
-      let t : Setting = record { rules = rules; blocks = blocks; workers = 1; traces = empties } in
+      let t : Setting = record { rules = rules; blocks = blocks; workers = h.workers; traces = empties } in
       record { order = in-order; setting = t; now = first_moment t; stands = stands-first t refl refl refl (length-replicate count []) }

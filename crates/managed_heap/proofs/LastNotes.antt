@@ -26,6 +26,6 @@ last-of-need rules old found made new note rest known last same = record {
       omega arith);
 }
 
-pub if-told : (Q : Note → Type 0) (o : Option Note) (note : Note) → IfSome o (λ told. told ≡ note) → Q note → IfSome o Q
-if-told Q None note is q = tt
-if-told Q (Some told) note is q = subst Q (sym is) q
+pub if-known : (Q : Note → Type 0) (o : Option Note) (note : Note) → IfSome o (λ known. known ≡ note) → Q note → IfSome o Q
+if-known Q None note is q = tt
+if-known Q (Some known) note is q = subst Q (sym is) q

@@ -76,7 +76,14 @@ module _ {P : Type 0} (rules : Rules) (old new : StoppedHeap P) (m : ℕ) (need 
   order-placed =
       let few : length old.mutators.items ≤ 16 = stopped.order.few in
       let many : length new.mutators.items ≡ length old.mutators.items = bears.change.len in
-      record { few = omega arith; notes = puts.notes; flags = puts.flags; number = born.layout.1 ∙ stopped.order.number ∙ sym counts-placed }
+      record {
+        few = omega arith;
+        notes = puts.notes;
+        flags = puts.flags;
+        number = born.layout.1 ∙ stopped.order.number ∙ sym counts-placed;
+        some_worker = subst (λ (w : ℕ). 1 ≤ w) (sym puts.workers) stopped.order.some_worker;
+        few_workers = subst (λ (w : ℕ). w ≤ 16) (sym puts.workers) stopped.order.few_workers;
+      }
 
   module _ (t : Setting) (now : Moment) (stands : HeapStandsAt rules old t now) where
     abbrev h : IdealHeap
@@ -132,7 +139,7 @@ module _ {P : Type 0} (rules : Rules) (old new : StoppedHeap P) (m : ℕ) (need 
     pub stands-after : HeapStandsAt rules new t moment
     stands-after = record {
       rules_are = stands.rules_are;
-      workers = stands.workers;
+      workers = stands.workers ∙ sym puts.workers;
       blocks = stands.blocks ∙ ap (λ (s : HeapState). s.blocks) (sym stands.heap) ∙ sym born.layout.0;
       heap = refl;
       mutators = refl;

@@ -29,7 +29,7 @@ IsFound old new = new ≡ record old { notes = new.notes }
 
 module _ {P : Type 0} (rules : Rules) (h : StoppedHeap P) (notes : BlockNotes) where
   same-noted : IsHeapInOrder rules h → AreKnown rules (heap_state h.heap) notes → IsHeapInOrder rules (with_notes h notes)
-  same-noted order are = record { few = order.few; notes = are.notes; flags = are.flags; number = order.number }
+  same-noted order are = record { few = order.few; notes = are.notes; flags = are.flags; number = order.number; some_worker = order.some_worker; few_workers = order.few_workers }
 
   stands-noted : (t : Setting) (now : Moment) → HeapStandsAt rules h t now → HeapStandsAt rules (with_notes h notes) t now
   stands-noted t now stands = record {

@@ -72,6 +72,7 @@ pub record WritesNeed {P : Type 0} (rules : Rules) (old : StoppedHeap P) (m : �
   pub flags : FlagsCover rules (heap_state new.heap) new.notes.flags.items
   pub nursery : new.nursery ≡ old.nursery
   pub full : new.full ≡ old.full
+  pub workers : new.workers ≡ old.workers
 
 -- the reply to the mutator
 abbrev pub reply_of : Placed → Reply

@@ -12,7 +12,7 @@ use Rattle.object_model.specs.declared.collect.Collect.TheVariants.{Nursery, Ful
 use Rattle.sessions.specs.Plans.{Rules}
 use Rattle.sessions.specs.Collecting.{IsCollection, Remembers, first_collection}
 use Rattle.sessions.specs.Sessions.{Setting, Moment, IsSound, Stopped as EndsPart, birth_count, ideal_at}
-use Rattle.collector.specs.Collected.{IsOffered, FillsIf}
+use Rattle.collector.specs.Collected.{IsOffered, FillsIf, LeavesFewBlocks}
 use Rattle.collector.specs.Tallies.{NotesIf}
 use Rattle.collector.specs.declared.outcome.Note.{Note}
 use Rattle.heap_users.specs.Users.{mutator_state}
@@ -20,6 +20,7 @@ use Rattle.heap_users.specs.Beginnings.{without_stop}
 use Rattle.block_regions.specs.Notes.{AreNotes, FillsHoles, FlagsCover}
 use Rattle.managed_heap.specs.declared.stopped_heap.StoppedHeap.{StoppedHeap}
 use Rattle.managed_heap.specs.declared.stopped_heap.Parts.{Parts}
+use Rattle.racing_collector.specs.declared.together.TheConstants.{MAX_WORKERS}
 
 -- The plans that can be managed: mutators fill holes of blocks, and the collections are made that
 -- allocations ask for.
@@ -37,6 +38,7 @@ parts_of h = record {
   roots = h.roots;
   nursery = h.nursery;
   full = h.full;
+  workers = h.workers;
 }
 
 -- the number of mutators
@@ -47,20 +49,22 @@ count_of_mutators h = length h.mutators.items
 abbrev pub collections_of : {P : Type 0} → StoppedHeap P → ℕ
 collections_of h = h.nursery + h.full
 
--- What a stopped heap keeps in order: the mutators are few, the notes and flags are those of its
--- blocks, and the counts of collections add up to the collection number.
+-- What a stopped heap keeps in order: mutators and workers are few, the notes and flags are those of
+-- its blocks, and the counts of collections add up to the collection number.
 pub record IsHeapInOrder {P : Type 0} (rules : Rules) (h : StoppedHeap P) : Type 0 where
   pub few : count_of_mutators h ≤ MAX_MUTATORS
   pub notes : AreNotes rules.fill (heap_state h.heap) h.notes
   pub flags : FlagsCover rules (heap_state h.heap) h.notes.flags.items
   pub number : (heap_state h.heap).number ≡ collections_of h
+  pub some_worker : 1 ≤ h.workers
+  pub few_workers : h.workers ≤ MAX_WORKERS
 
--- Heap, mutators and counts of collections are those of this moment, and the plan is that of the
--- setting. One worker traces. Of the traces of the setting only their number matters.
+-- Heap, mutators and counts of collections are those of this moment, and the plan and the number of
+-- workers those of the setting. Of the traces of the setting only their number matters.
 pub record HeapStandsAt {P : Type 0} (rules : Rules) (h : StoppedHeap P) (t : Setting)
     (now : Moment) : Type 0 where
   pub rules_are : t.rules ≡ rules
-  pub workers : t.workers ≡ 1
+  pub workers : t.workers ≡ h.workers
   pub blocks : t.blocks ≡ now.heap.blocks
   pub heap : heap_state h.heap ≡ now.heap
   pub mutators : map mutator_state h.mutators.items ≡ now.mutators
@@ -90,6 +94,7 @@ pub record EndsEpoch {P : Type 0} (rules : Rules) (old : StoppedHeap P) (now : M
       (map mutator_state new.mutators.items)
   pub nursery : new.nursery ≡ old.nursery
   pub full : new.full ≡ old.full
+  pub workers : new.workers ≡ old.workers
 
 -- It stands at some sound moment of some setting, not always one that a session reaches.
 pub record IsStopped {P : Type 0} (rules : Rules) (h : StoppedHeap P) : Type 0 where
@@ -107,25 +112,30 @@ counted Full nursery full = (nursery, full + 1)
 abbrev pub registers_of_heap : {P : Type 0} → StoppedHeap P → List ℕ
 registers_of_heap h = roots_of (map mutator_state h.mutators.items)
 
--- A collection was made and counted, and the note is of it. Its worker filled blocks in turn. The
--- registers are those that it left, and the notes on blocks and their flags those of its heap.
--- Mutators keep their numbers and births.
+-- A collection was made and counted, and the note is of it. One worker filled blocks in turn, and
+-- where each block was to be evacuated, few are in use. The registers are those that it left, and
+-- the notes on blocks and their flags those of its heap. Mutators keep their numbers and births.
 pub record HasCollected {P : Type 0} (rules : Rules) (kind : Collect) (old new : StoppedHeap P)
     (note : Note) : Type 0 where
-  pub collection : IsCollection rules 1 kind (heap_state old.heap) (registers_of_heap old)
+  pub collection : IsCollection rules old.workers kind (heap_state old.heap) (registers_of_heap old)
       (heap_state new.heap)
       (registers_of_heap new)
-  pub noted : NotesIf rules.collects rules 1 kind (heap_state old.heap) (registers_of_heap old)
+  pub noted : NotesIf rules.collects rules old.workers kind (heap_state old.heap)
+      (registers_of_heap old)
       (heap_state new.heap)
       (registers_of_heap new)
       collection note
-  pub fills : FillsIf rules.collects rules 1 kind (heap_state old.heap) (registers_of_heap old)
+  pub fills : FillsIf rules.collects rules old.workers kind (heap_state old.heap)
+      (registers_of_heap old)
       (heap_state new.heap)
       (registers_of_heap new)
       collection
+  pub blocks : LeavesFewBlocks rules old.workers kind (heap_state old.heap) (heap_state new.heap)
+      note
   pub births : map birth_count (map mutator_state new.mutators.items)
       ≡ map birth_count (map mutator_state old.mutators.items)
   pub registers : AllByRecursion (λ u. length u.registers ≡ 16) new.mutators.items
   pub counts : (new.nursery, new.full) ≡ counted kind old.nursery old.full
   pub notes : AreNotes rules.fill (heap_state new.heap) new.notes
   pub flags : FlagsCover rules (heap_state new.heap) new.notes.flags.items
+  pub workers : new.workers ≡ old.workers

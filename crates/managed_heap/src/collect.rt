@@ -43,8 +43,23 @@ pub fn all_registers(alloc: Global, mutators: &[Mutator]) -> Result<Vec<u32>, Al
     Ok(roots)
 }
 
+/// Counts the blocks of a heap that has as many as the notes. Of their holes nothing is known then;
+/// the flags stay. Takes no memory, and reads each block word once.
+pub(crate) fn forget_holes(notes: &mut BlockNotes, heap: &Heap)
+    requires blocks { length notes.old.notes.items ≡ (heap_state heap.now).blocks }
+    requires owned { notes.old.owned.items ≡ [] }
+    requires room { (heap_state heap.now).blocks ≤ vec_capacity notes.old.owned }
+    ensures notes { (fill : Kind) → AreNotes fill (heap_state heap.now) notes.new }
+    ensures flags { notes.new.flags ≡ notes.old.flags }
+{
+    notes.counts = block_counts(heap);
+    notes.notes.fill(BlockNote::Unowned {
+        least: BLOCK_WORDS + 1,
+    });
+}
+
 /// Counts the blocks of a heap that has as many as the notes, and in which no object is logged.
-/// Nothing else is known of them then. Takes no memory, and reads each block word once.
+/// Nothing else is known of them then.
 fn renew_notes(notes: &mut BlockNotes, heap: &Heap)
     requires blocks { length notes.old.notes.items ≡ (heap_state heap.now).blocks }
     requires owned { notes.old.owned.items ≡ [] }
@@ -54,10 +69,7 @@ fn renew_notes(notes: &mut BlockNotes, heap: &Heap)
     ensures flags { (rules : Rules) → NoneIsLogged rules (heap_state heap.now)
         → FlagsCover rules (heap_state heap.now) notes.new.flags.items }
 {
-    notes.counts = block_counts(heap);
-    notes.notes.fill(BlockNote::Unowned {
-        least: BLOCK_WORDS + 1,
-    });
+    forget_holes(notes, heap);
     notes.flags.fill(false);
 }
 
@@ -90,8 +102,8 @@ fn count_one(kind: Collect, nursery: u64, full: u64) -> (u64, u64)
 
 impl<P: Plan> StoppedHeap<P> {
     /// Makes a collection of this kind and returns what it kept. Its roots are the registers of all
-    /// mutators and the globals; one worker runs its packets in `pool`. Memory is taken for the
-    /// tracer, and for the roots only if their list has no room.
+    /// mutators and the globals; the heap's workers run its packets in `pool`. Memory is taken for
+    /// the tracer, and for the roots only if their list has no room.
     ///
     /// Fails if memory runs out. The heap is lost then.
     pub fn collect<Q: Pool, G: Gate, R: Threads + Sync>(
@@ -118,12 +130,13 @@ impl<P: Plan> StoppedHeap<P> {
             mut roots,
             nursery,
             full,
+            workers,
             plan,
         } = self;
         list_registers(&mut roots, &mutators)?;
         let flags = &notes.flags;
         let after = collector::collect_flagged::<P, Q, G, R>(
-            rt, alloc, heap, roots, flags, kind, 1, pool, gate,
+            rt, alloc, heap, roots, flags, kind, workers, pool, gate,
         )?;
         set_registers(&mut mutators, &after.roots);
         renew_notes(&mut notes, &after.heap);
@@ -136,6 +149,7 @@ impl<P: Plan> StoppedHeap<P> {
             roots: after.roots,
             nursery,
             full,
+            workers,
             plan,
         };
         Ok((stopped, after.note))
@@ -159,7 +173,7 @@ impl<P: Plan> StoppedHeap<P> {
         ensures stopped { IfOk result (λ r. IsStopped P.rules r.0) }
         ensures collected { IfOk result (λ r. (note : Note)
             × HasCollected P.rules kind self r.0 note × (IsTrue has_note → r.1 ≡ Some note)
-            × IfSome r.1 (λ told. told ≡ note)) }
+            × IfSome r.1 (λ known. known ≡ note)) }
         ensures makes { (t : Setting) (now : Moment) → HeapStandsAt P.rules self t now
             → IfOk result (λ r. (late : Moment) × MakesCollection t kind now late
             × HeapStandsAt P.rules r.0 t late) }
@@ -188,6 +202,7 @@ impl<P: Plan> StoppedHeap<P> {
             roots,
             nursery,
             full,
+            workers,
             plan,
         } = self;
         let mut row = heap.into_row();
@@ -202,6 +217,7 @@ impl<P: Plan> StoppedHeap<P> {
             roots,
             nursery,
             full: full + 1,
+            workers,
             plan,
         }
     }

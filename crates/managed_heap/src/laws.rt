@@ -39,8 +39,8 @@ pub fn stopped_heaps_begin_epochs<P>(heap: &StoppedHeap<P>)
         → IsOffered rules Nursery (heap_state heap.now.heap) }
 {}
 
-/// The parts of a world that `PlainWorld::close_with` closed, with the counts of collections of the
-/// heap with which its epoch began, are a stopped heap. It stands after the entries of the epoch.
+/// The parts of a world that was closed, with the counts of collections of the heap with which its
+/// epoch began, are a stopped heap. It stands after the entries of the epoch.
 pub fn closed_worlds_are_stopped<P>(heap: &StoppedHeap<P>)
     ensures stands { (rules : Rules) (old : StoppedHeap P) (t : Setting) (now : Moment)
         (part : List Entry) → HeapStandsAt rules old t now → EndsEpoch rules old now part heap.now

@@ -142,6 +142,7 @@ impl<P: Plan> StoppedHeap<P> {
             roots,
             nursery,
             full,
+            workers,
             plan,
         } = self;
         let shape = shape_of(need);
@@ -160,6 +161,7 @@ impl<P: Plan> StoppedHeap<P> {
             roots,
             nursery,
             full,
+            workers,
             plan,
         };
         (stopped, name)
@@ -210,7 +212,7 @@ impl<P: Plan> StoppedHeap<P> {
             → AddsBirths self.mutators.items m 0 r.0.mutators.items) }
         ensures counts { IfOk result (λ r. collections_of r.0 ≤ collections_of self + 2) }
         ensures noted { IfOk result (λ r. (note : Note) × IsNoteOfLast P.rules self r.0 note
-            × (IsTrue has_note → r.1 ≡ Some note) × IfSome r.1 (λ told. told ≡ note)) }
+            × (IsTrue has_note → r.1 ≡ Some note) × IfSome r.1 (λ known. known ≡ note)) }
     {
         let Scheduler { rt, pool, gate } = *scheduler;
         let first = P::kind(&self.heap);
@@ -281,7 +283,7 @@ impl<P: Plan> StoppedHeap<P> {
             (size ≡ size_of need.refs need.nums) × (r.0.full ≡ self.full + 1)
             × (Fits P.rules (heap_state r.0.heap) size → ⊥))) }
         ensures noted { IsTrue has_note → IfOk result (λ r. NotesLast P.rules self r.0 r.2) }
-        ensures told { IfOk result (λ r. IfSome r.2 (λ note. IsNoteOfLast P.rules self r.0 note)) }
+        ensures known { IfOk result (λ r. IfSome r.2 (λ note. IsNoteOfLast P.rules self r.0 note)) }
         ensures lost { OnErr result (Fits P.rules (heap_state self.heap)
             (size_of need.refs need.nums) → ⊥) }
     {

@@ -1,8 +1,10 @@
 //! A heap between two epochs: its mutators, what is known of its blocks, and its collections.
 
-ghost use Rattle.std.specs.Prelude.{◌≡◌, ◌≤◌, length, map, IfOk};
-ghost use Rattle.managed_heap.specs.Prelude.{Setting, Moment, first_moment, heap_state, mutator_state, parts_of, IsStopped, HeapStandsAt};
+ghost use Rattle.std.specs.Prelude.{◌≡◌, ◌≤◌, [], length, map, vec_capacity, IfOk};
+ghost use Rattle.managed_heap.specs.Prelude.{Setting, Moment, first_moment, heap_state, mutator_state, parts_of, AreNotes, IsStopped, HeapStandsAt};
 
+use crate::collect::forget_holes;
+use collector::MAX_WORKERS;
 use heap_layout::Layout;
 use ideal_heap::{MAX_MUTATORS, REGISTERS};
 use mutator_calls::Mutator;
@@ -26,6 +28,8 @@ pub struct StoppedHeap<P> {
     // The numbers of nursery and full collections.
     pub(crate) nursery: u64,
     pub(crate) full: u64,
+    // The number of workers of a collection.
+    pub(crate) workers: u32,
     pub(crate) plan: PhantomData<P>,
 }
 
@@ -42,19 +46,28 @@ pub struct Parts {
     /// The numbers of nursery and full collections.
     pub nursery: u64,
     pub full: u64,
+    /// The number of workers of a collection.
+    pub workers: u32,
 }
 
 impl<P: Plan> StoppedHeap<P> {
-    /// An empty heap with mutators 1 to `mutators`, whose registers are nil. Takes the heap's
-    /// memory, 32 KB a block.
+    /// An empty heap with mutators 1 to `mutators`, whose registers are nil. Its collections have
+    /// `workers` workers. Takes the heap's memory, 32 KB a block.
     ///
     /// Fails if memory runs out.
-    pub fn new(alloc: Global, layout: Layout, mutators: u32) -> Result<StoppedHeap<P>, AllocError>
+    pub fn new(
+        alloc: Global,
+        layout: Layout,
+        mutators: u32,
+        workers: u32,
+    ) -> Result<StoppedHeap<P>, AllocError>
         requires some { 1 ≤ mutators }
         requires few { mutators ≤ MAX_MUTATORS }
+        requires some_worker { 1 ≤ workers }
+        requires few_workers { workers ≤ MAX_WORKERS }
         ensures stopped { IfOk result (λ h. IsStopped P.rules h) }
         ensures stands { IfOk result (λ h. (t : Setting) → t.rules ≡ P.rules
-            → t.workers ≡ 1 → t.blocks ≡ layout.blocks → length t.traces ≡ mutators
+            → t.workers ≡ workers → t.blocks ≡ layout.blocks → length t.traces ≡ mutators
             → HeapStandsAt P.rules h t (first_moment t)) }
         ensures mutators { IfOk result (λ h. length h.mutators.items ≡ mutators) }
     {
@@ -70,6 +83,7 @@ impl<P: Plan> StoppedHeap<P> {
             roots,
             nursery: 0,
             full: 0,
+            workers,
             plan: PhantomData,
         })
     }
@@ -86,8 +100,24 @@ impl<P: Plan> StoppedHeap<P> {
             roots: parts.roots,
             nursery: parts.nursery,
             full: parts.full,
+            workers: parts.workers,
             plan: PhantomData,
         }
+    }
+
+    /// A stopped heap of its parts after an epoch in which flags of blocks were kept, and no notes
+    /// on their holes: the blocks are counted, and nothing else is known of them. Takes no memory.
+    pub fn from_flagged_parts(alloc: Global, parts: Parts) -> StoppedHeap<P>
+        requires blocks { length parts.notes.notes.items ≡ (heap_state parts.heap).blocks }
+        requires owned { parts.notes.owned.items ≡ [] }
+        requires room { (heap_state parts.heap).blocks ≤ vec_capacity parts.notes.owned }
+        ensures same { parts_of result ≡ record parts { notes = result.notes } }
+        ensures flags { result.notes.flags ≡ parts.notes.flags }
+        ensures notes { AreNotes P.rules.fill (heap_state result.heap) result.notes }
+    {
+        let mut parts = parts;
+        forget_holes(&mut parts.notes, &parts.heap);
+        StoppedHeap::from_parts(alloc, parts)
     }
 
     /// Its parts.
@@ -101,6 +131,7 @@ impl<P: Plan> StoppedHeap<P> {
             roots: self.roots,
             nursery: self.nursery,
             full: self.full,
+            workers: self.workers,
         }
     }
 

@@ -1,5 +1,5 @@
 -- A managed heap that begins: no entry, and no birth.
-use Rattle.std.proofs.Common.{◌≡◌, refl, ap, ◌∙◌, ℕ, ◌+◌, List, [], length, replicate}
+use Rattle.std.proofs.Common.{◌≡◌, refl, sym, ap, ◌∙◌, ℕ, ◌+◌, List, [], length, replicate}
 use Rattle.std.proofs.lemmas.List.{length-replicate}
 use Rattle.ideal_heap.specs.declared.command.Command.{Command}
 use Rattle.object_model.specs.Objects.{HeapState}
@@ -13,6 +13,11 @@ use Rattle.managed_value.specs.Histories.{HasEntries, heap_births_at, collection
 use Rattle.managed_value.specs.Allocations.{IsEmpty}
 use Rattle.managed_value.specs.Epochs.{BeginsWith}
 use Rattle.managed_value.proofs.Places.{births-none-yet}
+
+pub first-worker : {P : Type 0} (rules : Rules) (s : StoppedHeap P) (blocks count : ℕ)
+    → ((t : Setting) → t.rules ≡ rules → t.workers ≡ 1 → t.blocks ≡ blocks → length t.traces ≡ count → HeapStandsAt rules s t (first_moment t)) → s.workers ≡ 1
+first-worker rules s blocks count stands =
+    let t : Setting = record { rules = rules; blocks = blocks; workers = 1; traces = replicate count [] } in sym (stands t refl refl refl (length-replicate count [])).workers
 
 module _ {P : Type 0} (rules : Rules) (s : StoppedHeap P) (h : ManagedHeap P) (blocks count : ℕ) (begins : BeginsWith rules s h)
     (stands : (t : Setting) → t.rules ≡ rules → t.workers ≡ 1 → t.blocks ≡ blocks → length t.traces ≡ count → HeapStandsAt rules s t (first_moment t)) where

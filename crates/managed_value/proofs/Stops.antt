@@ -1,5 +1,5 @@
 -- A stop: the world is closed, and the heap stands at the moment after the epoch's entries. The next epoch begins there.
-use Rattle.std.proofs.Common.{◌≡◌, refl, sym, ◌∙◌, ap, subst, ℕ, ◌+◌, ◌≤◌, List, [], ◌++◌, length, map, Some}
+use Rattle.std.proofs.Common.{◌≡◌, refl, sym, ◌∙◌, ap, subst, ℕ, ◌+◌, ◌≤◌, arith, List, [], ◌++◌, length, map, Some}
 use Rattle.std.proofs.lemmas.List.{append-nil}
 use Rattle.ideal_heap.specs.Ideal.{IdealHeap, empty}
 use Rattle.ideal_heap.specs.Runs.{Entry}
@@ -37,11 +37,11 @@ moment_of s done = record {
 }
 
 pub stopped-stands : {P : Type 0} (rules : Rules) (h : ManagedHeap P) (w : PlainWorld P) (s : StoppedHeap P) (now : Moment) (part : List Entry) (since : IsSince rules h w now part)
-    → Stopped rules (numbers_of now.mutators) (without_stop now.heap) (ideal_at now) part (heap_state s.heap) (map mutator_state s.mutators.items)
+    → Stopped rules (numbers_of now.mutators) (without_stop now.heap) (ideal_at now) part (heap_state s.heap) (map mutator_state s.mutators.items) → s.workers ≡ 1
     → HeapStandsAt rules s since.setting (moment_of s (now.done ++ part))
-stopped-stands rules h w s now part since stopped = record {
+stopped-stands rules h w s now part since stopped one = record {
   rules_are = since.rules_are;
-  workers = since.workers;
+  workers = since.workers ∙ sym one;
   blocks = since.blocks ∙ sym stopped.blocks;
   heap = refl;
   mutators = refl;
@@ -66,7 +66,7 @@ stopped-users rules s stopped = may-use (heap_state s.heap) (map mutator_state s
 
 -- The epoch of a heap ends with a stopped heap.
 module _ {P : Type 0} (rules : Rules) (h : ManagedHeap P) (w : PlainWorld P) (s : StoppedHeap P) (here : h.world ≡ Some w) (usable : IsUsable rules h)
-    (nursery : s.nursery ≡ h.nursery) (full : s.full ≡ h.full)
+    (nursery : s.nursery ≡ h.nursery) (full : s.full ≡ h.full) (one : s.workers ≡ 1)
     (stops : (p : Epoch) (i : IdealHeap) (part : List Entry) → HasHistory w p i part
     → Stopped p.rules (numbers_of p.mutators) p.before i part (heap_state s.heap) (map mutator_state s.mutators.items))
     (states : map mutator_state s.mutators.items ≡ mutators_of_world w)
@@ -79,7 +79,7 @@ module _ {P : Type 0} (rules : Rules) (h : ManagedHeap P) (w : PlainWorld P) (s 
         since.setting,
         moment_of s (has.now.done ++ has.part),
         sym has.entries,
-        stopped-stands rules h w s has.now has.part since (stops (epoch_of rules has.now.heap has.now.mutators) (ideal_at has.now) has.part since.history),
+        stopped-stands rules h w s has.now has.part since (stops (epoch_of rules has.now.heap has.now.mutators) (ideal_at has.now) has.part since.history) one,
       )
 
   count : length s.mutators.items ≡ places_of w
@@ -99,6 +99,8 @@ module _ {P : Type 0} (rules : Rules) (h : ManagedHeap P) (w : PlainWorld P) (s 
         notes = notes p (ideal_at has.now) has.part since.history;
         flags = flags rules (sym since.history.at.young);
         number = number ∙ since.number ∙ ap (λ (n : ℕ). n + h.full) (sym nursery) ∙ ap (λ (n : ℕ). s.nursery + n) (sym full);
+        some_worker = subst (λ (k : ℕ). 1 ≤ k) (sym one) (omega arith);
+        few_workers = subst (λ (k : ℕ). k ≤ 16) (sym one) (omega arith);
       }
 
   closes-here : (v : PlainWorld P) → h.world ≡ Some v → ClosesWorld v s
@@ -117,10 +119,15 @@ module _ {P : Type 0} (rules : Rules) (h : ManagedHeap P) (w : PlainWorld P) (s 
         births = λ m. births-same w.row.mutators.items s.mutators.items states m ∙ sym (ap (λ o. born_to o m) here);
         nursery = nursery;
         full = full;
+        workers = one;
       }
 
+-- as many workers as before
+pub one-worker : {P : Type 0} (rules : Rules) (s r : StoppedHeap P) → IsStopped rules s → s.workers ≡ 1 → ((t : Setting) (now : Moment) → HeapStandsAt rules s t now → (next : Moment) × HeapStandsAt rules r t next) → r.workers ≡ 1
+one-worker rules s r stopped one goes-on = sym (goes-on stopped.setting stopped.now stopped.stands).1.workers ∙ (stopped.stands.workers ∙ one)
+
 -- An epoch begins with a stopped heap.
-module _ {P : Type 0} (rules : Rules) (s : StoppedHeap P) (h : ManagedHeap P) (w : PlainWorld P) (stopped : IsStopped rules s) (some : 1 ≤ length s.mutators.items)
+module _ {P : Type 0} (rules : Rules) (s : StoppedHeap P) (h : ManagedHeap P) (w : PlainWorld P) (stopped : IsStopped rules s) (one : s.workers ≡ 1) (some : 1 ≤ length s.mutators.items)
     (here : h.world ≡ Some w) (nursery : h.nursery ≡ s.nursery) (full : h.full ≡ s.full) (is_open : IsOpen rules w)
     (states : mutators_of_world w ≡ map mutator_state s.mutators.items)
     (cleared : heap_of_world w ≡ without_stop (heap_state s.heap))
@@ -135,7 +142,7 @@ module _ {P : Type 0} (rules : Rules) (s : StoppedHeap P) (h : ManagedHeap P) (w
     since = record {
       setting = t;
       rules_are = stands.rules_are;
-      workers = stands.workers;
+      workers = stands.workers ∙ one;
       blocks = stands.blocks;
       sound = stands.sound;
       run = stands.run;

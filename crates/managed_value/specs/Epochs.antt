@@ -41,6 +41,7 @@ pub record EndsWith {P : Type 0} (rules : Rules) (old : ManagedHeap P) (s : Stop
   pub births : (m : ℕ) → stopped_births s m ≡ heap_births_at old m
   pub nursery : s.nursery ≡ old.nursery
   pub full : s.full ≡ old.full
+  pub workers : s.workers ≡ 1
 
 -- An epoch began with this stopped heap. The heap has the entries after which that stood.
 pub record BeginsWith {P : Type 0} (rules : Rules) (s : StoppedHeap P) (new : ManagedHeap P)

@@ -50,6 +50,7 @@ impl<P: Plan> ManagedHeap<P> {
             roots,
             nursery: self.nursery,
             full: self.full,
+            workers: 1,
         };
         Some(StoppedHeap::from_parts(self.alloc, parts))
     }
@@ -58,6 +59,7 @@ impl<P: Plan> ManagedHeap<P> {
     pub(crate) fn go_on(&mut self, stopped: StoppedHeap<P>, seats: Vec<LocalSeat>)
         requires lost { IsLost self.old }
         requires stopped { IsStopped P.rules stopped }
+        requires one { stopped.workers ≡ 1 }
         requires some { 1 ≤ stopped_count stopped }
         requires seats { seats.items ≡ replicate (stopped_count stopped) empty_seat }
         ensures begins { BeginsWith P.rules stopped self.new }
@@ -71,6 +73,7 @@ impl<P: Plan> ManagedHeap<P> {
             roots,
             nursery,
             full,
+            workers: _,
         } = stopped.into_parts();
         let world = PlainWorld::begin_seated(heap, mutators, notes, seats);
         self.world = Some(world);

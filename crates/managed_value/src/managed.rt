@@ -70,7 +70,7 @@ impl<P: Plan> ManagedHeap<P> {
             words: 0,
         };
         let seats = new_seats(alloc, mutators as usize)?;
-        let stopped = StoppedHeap::new(alloc, layout, mutators)?;
+        let stopped = StoppedHeap::new(alloc, layout, mutators, 1)?;
         heap.go_on(stopped, seats);
         Ok(heap)
     }

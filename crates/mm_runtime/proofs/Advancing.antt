@@ -10,16 +10,19 @@ use Rattle.sessions.proofs.Orders as orders
 use Rattle.sessions.proofs.GrowingHistories as growing
 use Rattle.block_regions.proofs.Lists.{get-some, get-below}
 use Rattle.mm_runtime.specs.declared.progress.Progress.{Progress}
-use Rattle.mm_runtime.specs.declared.progress.End.{End}
-use Rattle.mm_runtime.specs.declared.progress.End.TheVariants as end
+use Rattle.mm_runtime.specs.declared.progress.PartEnd.{PartEnd}
+use Rattle.mm_runtime.specs.declared.progress.PartEnd.TheVariants as end
 use Rattle.mm_runtime.specs.declared.manager.Manager.{Manager}
 use Rattle.mm_runtime.specs.Managers.{replied, StandsAt, Closes, HasEnded}
 use Rattle.mm_runtime.specs.Parts.{causes, AreNeeds}
+use Rattle.mm_runtime.specs.OpenEpochs.{EndsParts, MakesEpoch}
+use Rattle.mm_runtime.specs.declared.manager.Turn.{Turn}
+use Rattle.mm_runtime.specs.declared.manager.Turn.TheVariants as turns
 use Rattle.mm_runtime.proofs.Tally.{own-entries, entries-are-replies}
 use Rattle.mm_runtime.proofs.MeetStops.{trace-is, next-is, as-many}
 
 -- the needs are still those of the manager before the collection
-pub needs-kept : (old new : List Progress) (ends : List End) → ((k : ℕ) → slice_get ends k ≢ Some end.Gc → slice_get new k ≡ slice_get old k)
+pub needs-kept : (old new : List Progress) (ends : List PartEnd) → ((k : ℕ) → slice_get ends k ≢ Some end.Gc → slice_get new k ≡ slice_get old k)
     → AreNeeds old ends → AreNeeds new ends
 needs-kept old new ends others needs k p need is at =
     let other : slice_get ends k ≢ Some end.Gc = λ gc. (let wrong : Some end.Gc ≡ Some (end.Need need) = sym gc ∙ at in cc) in
@@ -52,14 +55,14 @@ module _ {P : Type 0} (rules : Rules) where
         let inside : k < length m.progress.items = get-below m.progress.items k p is in
         sym (next-is rules m t now at k p is) ∙ none (k + 1) (omega arith, omega arith)
 
-  module _ (before stop collected served now : Manager P) (ends gc_ends need_ends : List End) (gc_same : gc_ends ≡ ends) (need_same : need_ends ≡ ends)
-      (run : (t : Setting) (at : Moment) → Closes rules before t at → (next : Moment) × RunsPart t at (causes ends) next × StandsAt rules stop t next)
+  module _ (before stop collected served now : Manager P) (ends gc_ends need_ends : List PartEnd) (gc_same : gc_ends ≡ ends) (need_same : need_ends ≡ ends)
+      (run : EndsParts rules before ends stop)
       (gc : (t : Setting) (at : Moment) → StandsAt rules stop t at → (next : Moment) × CollectsFor t (filter (λ m. is_at_gc (causes gc_ends m)) (traced_mutators t)) at next
       × StandsAt rules collected t next)
       (needs : (t : Setting) (at : Moment) → StandsAt rules collected t at → (next : Moment) × ServesAll t (filter (λ m. is_at_need (causes need_ends m)) (traced_mutators t)) at next
       × StandsAt rules served t next)
       (meets : (t : Setting) (at : Moment) → StandsAt rules served t at → (next : Moment) × Meets t at next × StandsAt rules now t next) where
-    pub epoch : (t : Setting) (at : Moment) → Closes rules before t at → (next : Moment) × IsEpoch t at next × Closes rules now t next
+    pub epoch : MakesEpoch rules before now
     epoch t at closes =
         let part = run t at closes in
         let first = gc t part.0 part.2 in
@@ -81,13 +84,21 @@ module _ {P : Type 0} (rules : Rules) where
         } in
         (third.0, whole, record { session = sessions.longer at closes.session whole; stands = third.2 })
 
-    -- an epoch makes a reply, unless every command has its reply
-    pub goes-on : (t : Setting) (at : Moment) → Closes rules before t at → (replied before.progress.items < replied now.progress.items) ⊎ HasEnded now
-    goes-on t at closes =
-        let next = epoch t at closes in
-        let old : length at.done ≡ replied before.progress.items = entries-are-replies before.progress.items at.done closes.stands.replies in
-        let new : length next.0.done ≡ replied now.progress.items = entries-are-replies now.progress.items next.0.done next.2.stands.replies in
-        elim (growing.epoch-grows t at next.0 next.1) as (λ _. (replied before.progress.items < replied now.progress.items) ⊎ HasEnded now) [
-          | inl more ↦ inl (omega arith)
-          | inr none ↦ inr (all-ended now t next.0 next.2.stands none)
-        ]
+  -- an epoch makes a reply, unless every command has its reply
+  pub goes-on : (before now : Manager P) → MakesEpoch rules before now → (t : Setting) (at : Moment) → Closes rules before t at
+      → (replied before.progress.items < replied now.progress.items) ⊎ HasEnded now
+  goes-on before now epoch t at closes =
+      let next = epoch t at closes in
+      let old : length at.done ≡ replied before.progress.items = entries-are-replies before.progress.items at.done closes.stands.replies in
+      let new : length next.0.done ≡ replied now.progress.items = entries-are-replies now.progress.items next.0.done next.2.stands.replies in
+      elim (growing.epoch-grows t at next.0 next.1) as (λ _. (replied before.progress.items < replied now.progress.items) ⊎ HasEnded now) [
+        | inl more ↦ inl (omega arith)
+        | inr none ↦ inr (all-ended now t next.0 next.2.stands none)
+      ]
+
+  pub goes-on-more : (before now : Manager P) (turn : Turn) → MakesEpoch rules before now → (t : Setting) (at : Moment) → Closes rules before t at
+      → (HasEnded now → turn ≡ turns.Ended) → turn ≡ turns.More → replied before.progress.items < replied now.progress.items
+  goes-on-more before now turn epoch t at closes ended more = elim (goes-on before now epoch t at closes) as (λ _. replied before.progress.items < replied now.progress.items) [
+    | inl less ↦ less
+    | inr all ↦ (let wrong : turns.More ≡ turns.Ended = sym more ∙ ended all in cc)
+  ]

@@ -24,7 +24,7 @@ use Rattle.managed_heap.proofs.Worlds.facts
 use Rattle.heap_users.proofs.StopWords.{stopped-before}
 use Rattle.heap_users.proofs.Cleared as cleared
 use Rattle.mm_runtime.specs.declared.progress.Progress.{Progress}
-use Rattle.mm_runtime.specs.declared.progress.End.{End}
+use Rattle.mm_runtime.specs.declared.progress.PartEnd.{PartEnd}
 use Rattle.mm_runtime.specs.declared.manager.Manager.{Manager}
 use Rattle.mm_runtime.specs.Managers.{traces_of, HasReplies, IsInOrder, StandsAt}
 use Rattle.mm_runtime.specs.Parts.{causes, IsExhausted}
@@ -34,7 +34,7 @@ use Rattle.mm_runtime.proofs.Causes as ends-of
 use Rattle.mm_runtime.proofs.ManagersStand as standing
 use Rattle.mm_runtime.proofs.ManagersStand.{RunsEpoch}
 
-module _ {P : Type 0} (rules : Rules) (old new : Manager P) (ends : List End) (r : RunsEpoch rules old new ends) (t : Setting) (now : Moment)
+module _ {P : Type 0} (rules : Rules) (old new : Manager P) (ends : List PartEnd) (r : RunsEpoch rules old new ends) (t : Setting) (now : Moment)
     (stands : StandsAt rules old t now) where
   abbrev before : HeapState
   before = heap_state old.heap.heap
@@ -104,11 +104,11 @@ module _ {P : Type 0} (rules : Rules) (old new : Manager P) (ends : List End) (r
     done = refl;
     runs = run;
     each = each;
-    causes = ends-of.all-causes r.last t stop new.progress.items ends traces replies many r.runs.causes;
+    causes = ends-of.all-causes (IsExhausted r.last) t stop new.progress.items ends traces replies many r.runs.causes;
     stopped = stopped;
     counts = (refl, refl);
     needs = λ m d refs nums is at need small.
-        let k = ends-of.needs-exhausted r.last t stop new.progress.items ends traces replies many r.runs.causes m d refs nums is at need small in
+        let k = ends-of.needs-exhausted (IsExhausted r.last) t stop new.progress.items ends traces replies many r.runs.causes m d refs nums is at need small in
         exhausted k.0 k.1;
   }
 
@@ -119,7 +119,7 @@ module _ {P : Type 0} (rules : Rules) (old new : Manager P) (ends : List End) (r
   stands-after = record {
     heap = record {
       rules_are = stands.heap.rules_are;
-      workers = stands.heap.workers;
+      workers = stands.heap.workers ∙ sym r.workers;
       blocks = stands.heap.blocks ∙ sym stopped.blocks;
       heap = refl;
       mutators = refl;
@@ -148,6 +148,8 @@ module _ {P : Type 0} (rules : Rules) (old new : Manager P) (ends : List End) (r
           notes = r.notes p (ideal_at now) part history;
           flags = r.flags rules (sym history.at.young);
           number = (r.stopped p (ideal_at now) part history).number ∙ order.heap.number ∙ ap (λ n. n + old.heap.full) (sym r.nursery) ∙ ap (λ n. new.heap.nursery + n) (sym r.full);
+          some_worker = subst (λ w. 1 ≤ w) (sym r.workers) order.heap.some_worker;
+          few_workers = subst (λ w. w ≤ 16) (sym r.workers) order.heap.few_workers;
         };
         some = let some = order.some in omega arith;
         few = let few = order.few in omega arith;

@@ -24,14 +24,14 @@ seat-of : (o : Option LocalSeat) (t : ℕ) → ticket_of o ≡ Some t → (x : L
 seat-of None t is = absurd (let wrong : None ≡ Some t = is in cc)
 seat-of (Some x) t is = (x, refl, is)
 
-one-most : (a : ℕ) (o : Option ℕ) → tickets_below a o ≤ 1
+pub one-most : (a : ℕ) (o : Option ℕ) → tickets_below a o ≤ 1
 one-most a None = omega arith
 one-most a (Some t) = elim (nat_lt t a) as (λ b. (if b then 1 else 0) ≤ 1) [ true ↦ omega arith | false ↦ omega arith ]
 
-past-none : (a t : ℕ) → a ≤ t → tickets_below a (Some t) ≡ 0
+pub past-none : (a t : ℕ) → a ≤ t → tickets_below a (Some t) ≡ 0
 past-none a t past = grind (arith, nat_tests)
 
-past-smaller : (a b : ℕ) → a ≤ b → smaller b a ≡ a
+pub past-smaller : (a b : ℕ) → a ≤ b → smaller b a ≡ a
 past-smaller a b past = grind (arith, nat_tests)
 
 pub exhausts : {P : Type 0} (w : PlainWorld P) (p : Epoch) (i : IdealHeap) (part : List Entry) (new : HeapState) (k : ℕ) → HasHistory w p i part

@@ -26,13 +26,13 @@ none-born (n ∷ ns) zero s is = ap (λ (o : Option MutatorState). births-in o) 
     births-in (Some x) = x.births
 none-born (n ∷ ns) (suc k) s is = none-born ns k s is
 
-module _ {P : Type 0} (rules : Rules) (m : Manager P) (blocks count : ℕ) (traces : List (List Command)) (stands : (t : Setting) → t.rules ≡ rules → t.workers ≡ 1 → t.blocks ≡ blocks
+module _ {P : Type 0} (rules : Rules) (m : Manager P) (blocks count workers : ℕ) (traces : List (List Command)) (stands : (t : Setting) → t.rules ≡ rules → t.workers ≡ workers → t.blocks ≡ blocks
     → length t.traces ≡ count → stopped.HeapStandsAt rules m.heap t (first_moment t)) (order : stopped.IsHeapInOrder rules m.heap) (as_many : length m.heap.mutators.items ≡ count)
     (counted : count ≡ length traces) (same : traces_of m.progress.items ≡ traces)
     (fresh : (k : ℕ) (p : Progress) → slice_get m.progress.items k ≡ Some p → IsFresh p.trace p)
     (some : 1 ≤ length traces) (few : length traces ≤ 16) (runnable : All IsRunnableTrace traces) where
   abbrev own : Setting
-  own = record { rules = rules; blocks = blocks; workers = 1; traces = traces }
+  own = record { rules = rules; blocks = blocks; workers = workers; traces = traces }
 
   first : stopped.HeapStandsAt rules m.heap own (first_moment own)
   first = stands own refl refl refl (sym counted)
@@ -67,7 +67,7 @@ module _ {P : Type 0} (rules : Rules) (m : Manager P) (blocks count : ℕ) (trac
     collections = (let nursery : m.heap.nursery ≡ 0 = first.nursery in let full : m.heap.full ≡ 0 = first.full in omega arith);
   }
 
-  pub closes : (t : Setting) → t.rules ≡ rules → t.blocks ≡ blocks → t.workers ≡ 1 → t.traces ≡ traces → Closes rules m t (first_moment t)
+  pub closes : (t : Setting) → t.rules ≡ rules → t.blocks ≡ blocks → t.workers ≡ workers → t.traces ≡ traces → Closes rules m t (first_moment t)
   closes t rules_are blocks_are one traces_are = record {
     session = sessions.begun;
     stands = record {

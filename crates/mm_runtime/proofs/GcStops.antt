@@ -14,8 +14,8 @@ use Rattle.collector.specs.declared.outcome.Note.{Note}
 use Rattle.managed_heap.specs.declared.stopped_heap.StoppedHeap.{StoppedHeap}
 use Rattle.managed_heap.specs.Stopped.{HasCollected}
 use Rattle.mm_runtime.specs.declared.progress.Progress.{Progress}
-use Rattle.mm_runtime.specs.declared.progress.End.{End}
-use Rattle.mm_runtime.specs.declared.progress.End.TheVariants as end
+use Rattle.mm_runtime.specs.declared.progress.PartEnd.{PartEnd}
+use Rattle.mm_runtime.specs.declared.progress.PartEnd.TheVariants as end
 use Rattle.mm_runtime.specs.declared.manager.Manager.{Manager}
 use Rattle.mm_runtime.specs.Managers.{next_in_trace, replied, IsInOrder, IsAtStop, StandsAt}
 use Rattle.mm_runtime.specs.Parts.{causes, AreGcs}
@@ -25,7 +25,7 @@ use Rattle.mm_runtime.proofs.Oks as oks
 use Rattle.mm_runtime.proofs.Collected as collected
 use Rattle.mm_runtime.proofs.Gcs as gcs
 
-module _ {P : Type 0} (rules : Rules) (ends : List End) where
+module _ {P : Type 0} (rules : Rules) (ends : List PartEnd) where
   -- no mutator is at `gc`
   pub nothing : (m : Manager P) → (HasGc ends → ⊥) → (t : Setting) (now : Moment) → StandsAt rules m t now
       → (mid : Moment) × CollectsFor t (filter (λ m. is_at_gc (causes ends m)) (traced_mutators t)) now mid × StandsAt rules m t mid

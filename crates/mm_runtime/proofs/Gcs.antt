@@ -3,8 +3,8 @@ use Rattle.std.proofs.Common.{◌≡◌, refl, ap, ℕ, zero, suc, ◌+◌, ◌<
 use Rattle.std.specs.Prelude.{slice_get, Some, None, Option}
 use Rattle.std.specs.List.{range_with_len}
 use Rattle.sessions.specs.Sessions.{is_at_gc}
-use Rattle.mm_runtime.specs.declared.progress.End.{End}
-use Rattle.mm_runtime.specs.declared.progress.End.TheVariants as end
+use Rattle.mm_runtime.specs.declared.progress.PartEnd.{PartEnd}
+use Rattle.mm_runtime.specs.declared.progress.PartEnd.TheVariants as end
 use Rattle.mm_runtime.specs.Parts.{cause_of, causes}
 use Rattle.mm_runtime.specs.Replying.{is_gc_at, HasGc}
 use Rattle.mm_runtime.proofs.OkSteps.{not-gc}
@@ -14,12 +14,12 @@ pub filter-none : (p : ℕ → Bool) (a n : ℕ) → ((m : ℕ) → a ≤ m → 
 filter-none p a zero each = refl
 filter-none p a (suc n) each = rw (each a (omega arith) (omega arith)) (filter-none p (a + 1) n (λ m low high. each m (omega arith) (omega arith)))
 
-module _ (ends : List End) where
+module _ (ends : List PartEnd) where
   -- the test on a mutator's number is that on its place
   pub at-place : (k : ℕ) → is_at_gc (causes ends (k + 1)) ≡ is_gc_at ends k
   at-place k = let same : k + 1 ≡ suc k = omega arith in ap (λ m. is_at_gc (causes ends m)) same
 
-  is-gc : (o : Option End) → is_at_gc (cause_of o) ≡ true → o ≡ Some end.Gc
+  is-gc : (o : Option PartEnd) → is_at_gc (cause_of o) ≡ true → o ≡ Some end.Gc
   is-gc None is = let wrong : false ≡ true = is in cc
   is-gc (Some end.Gc) is = refl
   is-gc (Some end.Meet) is = let wrong : false ≡ true = is in cc

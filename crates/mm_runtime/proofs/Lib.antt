@@ -29,3 +29,14 @@ pub mod ManagersStand
 pub mod Tally
 mod ReplyCounts
 pub mod Waits
+pub mod SeatReplies
+pub mod SeatBirths
+pub mod SeatCauses
+pub mod PartLists
+pub mod SeatHistories
+pub mod SeatsClosed
+pub mod SeatsOpened
+pub mod PartsRun
+pub mod SeatsHanded
+pub mod PartsLater
+pub mod SharedWorlds

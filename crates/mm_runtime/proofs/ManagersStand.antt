@@ -23,15 +23,15 @@ use Rattle.heap_users.specs.Users.{mutator_state}
 use Rattle.managed_heap.proofs.Worlds.{numbers-mapped}
 use Rattle.block_regions.proofs.Lists.{get-some, get-below}
 use Rattle.mm_runtime.specs.declared.progress.Progress.{Progress}
-use Rattle.mm_runtime.specs.declared.progress.End.{End}
+use Rattle.mm_runtime.specs.declared.progress.PartEnd.{PartEnd}
 use Rattle.mm_runtime.specs.declared.manager.Manager.{Manager}
 use Rattle.block_regions.specs.Notes.{AreNotes, FlagsCover}
 use Rattle.mm_runtime.specs.Managers.{traces_of, replied, HasReplies, StandsAt}
-use Rattle.mm_runtime.specs.Parts.{RunsParts}
+use Rattle.mm_runtime.specs.Parts.{RepliesGrow, RunsParts}
 use Rattle.mm_runtime.proofs.AnswersInTurn.{number-mapped, births-same}
 use Rattle.mm_runtime.proofs.ListFacts.{sum-grows, all-weaker}
 
-pub record RunsEpoch {P : Type 0} (rules : Rules) (old new : Manager P) (ends : List End) : Type 0 where
+pub record RunsEpoch {P : Type 0} (rules : Rules) (old new : Manager P) (ends : List PartEnd) : Type 0 where
   pub first : PlainWorld P
   pub last : PlainWorld P
   pub count : places_of last ≡ length old.progress.items
@@ -48,6 +48,7 @@ pub record RunsEpoch {P : Type 0} (rules : Rules) (old new : Manager P) (ends : 
   pub flags : (x : Rules) → x.young ≡ is_generational last → FlagsCover x (heap_state new.heap.heap) new.heap.notes.flags.items
   pub nursery : new.heap.nursery ≡ old.heap.nursery
   pub full : new.heap.full ≡ old.heap.full
+  pub workers : new.heap.workers ≡ old.heap.workers
 
 pub stands-represents : {P : Type 0} (rules : Rules) (m : Manager P) (t : Setting) (now : Moment) → StandsAt rules m t now
     → Represents (heap_state m.heap.heap) (map mutator_state m.heap.mutators.items) (ideal_at now)
@@ -88,45 +89,50 @@ traces-agree (p ∷ ps) (q ∷ qs) same each =
     ap (λ (t : List Command). t ∷ traces_of qs) (each 0 p q refl refl)
     ∙ ap (λ (ts : List (List Command)). p.trace ∷ ts) (traces-agree ps qs (let e : suc (length qs) ≡ suc (length ps) = same in omega arith) (λ k. each (suc k)))
 
-module _ {P : Type 0} (rules : Rules) (old new : Manager P) (ends : List End) (r : RunsEpoch rules old new ends) where
-  abbrev ps : List Progress
-  ps = old.progress.items
-
-  abbrev qs : List Progress
-  qs = new.progress.items
-
-  pub traces-same : traces_of qs ≡ traces_of ps
-  traces-same = traces-agree ps qs r.runs.count (λ k p q was is. (r.runs.grows k p q was is).trace)
+-- the traces before an epoch and after it, in which the entries of this part came
+module _ (ps qs : List Progress) (part : List Entry) (count : length qs ≡ length ps) (grows : (k : ℕ) (p q : Progress) → slice_get ps k ≡ Some p → slice_get qs k ≡ Some q → RepliesGrow (k + 1) part p q) where
+  pub traces-grown : traces_of qs ≡ traces_of ps
+  traces-grown = traces-agree ps qs count (λ k p q was is. (grows k p q was is).trace)
 
   -- no reply is lost
-  pub replied-more : replied ps ≤ replied qs
-  replied-more = sum-grows (λ (p : Progress). length p.replies.items) ps qs r.runs.count
-      (λ k p q was is. let more : q.replies.items ≡ p.replies.items ++ replies_of (k + 1) r.runs.part = (r.runs.grows k p q was is).replies in
-      omega (arith, ap length more ∙ length-append p.replies.items (replies_of (k + 1) r.runs.part)))
+  pub replied-grown : replied ps ≤ replied qs
+  replied-grown = sum-grows (λ (p : Progress). length p.replies.items) ps qs count
+      (λ k p q was is. let more : q.replies.items ≡ p.replies.items ++ replies_of (k + 1) part = (grows k p q was is).replies in
+      omega (arith, ap length more ∙ length-append p.replies.items (replies_of (k + 1) part)))
+
+  -- the entries of the epoch have the replies that came
+  module _ (done : List Entry) (replies : HasReplies ps done) (mutators : AllByRecursion (λ e. (1 ≤ e.mutator) × (e.mutator ≤ length ps)) part) where
+    before : (k : ℕ) (q : Progress) → slice_get qs k ≡ Some q → (p : Progress) × (slice_get ps k ≡ Some p)
+    before k q is = get-some ps k (let below : k < length qs = get-below qs k q is in omega arith)
+
+    pub replies-grown : HasReplies qs (done ++ part)
+    replies-grown = record {
+      mutators = all-append (λ e. IsMutator (traces_of qs) e.mutator) done part
+          (subst (λ (ts : List (List Command)). AllByRecursion (λ e. IsMutator ts e.mutator) done) (sym traces-grown) replies.mutators)
+          (all-weaker (λ e. (1 ≤ e.mutator) × (e.mutator ≤ length ps)) (λ e. IsMutator (traces_of qs) e.mutator)
+          (λ e is. (is.0, let many : length (traces_of qs) ≡ length qs = length-map qs (λ (p : Progress). p.trace) in omega (arith, is.1))) part mutators);
+      commands = λ k q is. let p = before k q is in
+          ap (map (λ (e : Entry). e.command)) (of_mutator-append (k + 1) done part)
+          ∙ map-append (λ (e : Entry). e.command) (of_mutator (k + 1) done) (of_mutator (k + 1) part)
+          ∙ ap (λ l. l ++ commands_of (k + 1) part) (replies.commands k p.0 p.1)
+          ∙ sym (grows k p.0 q p.1 is).commands;
+      replies = λ k q is. let p = before k q is in
+          ap (map (λ (e : Entry). e.reply)) (of_mutator-append (k + 1) done part)
+          ∙ map-append (λ (e : Entry). e.reply) (of_mutator (k + 1) done) (of_mutator (k + 1) part)
+          ∙ ap (λ l. l ++ replies_of (k + 1) part) (replies.replies k p.0 p.1)
+          ∙ sym (grows k p.0 q p.1 is).replies;
+    }
+
+module _ {P : Type 0} (rules : Rules) (old new : Manager P) (ends : List PartEnd) (r : RunsEpoch rules old new ends) where
+  pub traces-same : traces_of new.progress.items ≡ traces_of old.progress.items
+  traces-same = traces-grown old.progress.items new.progress.items r.runs.part r.runs.count r.runs.grows
+
+  pub replied-more : replied old.progress.items ≤ replied new.progress.items
+  replied-more = replied-grown old.progress.items new.progress.items r.runs.part r.runs.count r.runs.grows
 
   pub history : (i : IdealHeap) → Represents (heap_state old.heap.heap) (map mutator_state old.heap.mutators.items) i
       → HasHistory r.last (epoch_of rules (heap_state old.heap.heap) (map mutator_state old.heap.mutators.items)) i r.runs.part
   history i is = r.runs.history (epoch_of rules (heap_state old.heap.heap) (map mutator_state old.heap.mutators.items)) i [] (r.begins i is)
 
-  -- the entries of the epoch have the replies that came
-  module _ (done : List Entry) (replies : HasReplies ps done) where
-    before : (k : ℕ) (q : Progress) → slice_get qs k ≡ Some q → (p : Progress) × (slice_get ps k ≡ Some p)
-    before k q is = get-some ps k (let below : k < length qs = get-below qs k q is in let count = r.runs.count in omega arith)
-
-    pub has-replies : HasReplies qs (done ++ r.runs.part)
-    has-replies = record {
-      mutators = all-append (λ e. IsMutator (traces_of qs) e.mutator) done r.runs.part
-          (subst (λ (ts : List (List Command)). AllByRecursion (λ e. IsMutator ts e.mutator) done) (sym traces-same) replies.mutators)
-          (all-weaker (λ e. (1 ≤ e.mutator) × (e.mutator ≤ length ps)) (λ e. IsMutator (traces_of qs) e.mutator)
-          (λ e is. (is.0, let many : length (traces_of qs) ≡ length qs = length-map qs (λ (p : Progress). p.trace) in let count = r.runs.count in omega (arith, is.1))) r.runs.part r.runs.mutators);
-      commands = λ k q is. let p = before k q is in
-          ap (map (λ (e : Entry). e.command)) (of_mutator-append (k + 1) done r.runs.part)
-          ∙ map-append (λ (e : Entry). e.command) (of_mutator (k + 1) done) (of_mutator (k + 1) r.runs.part)
-          ∙ ap (λ l. l ++ commands_of (k + 1) r.runs.part) (replies.commands k p.0 p.1)
-          ∙ sym (r.runs.grows k p.0 q p.1 is).commands;
-      replies = λ k q is. let p = before k q is in
-          ap (map (λ (e : Entry). e.reply)) (of_mutator-append (k + 1) done r.runs.part)
-          ∙ map-append (λ (e : Entry). e.reply) (of_mutator (k + 1) done) (of_mutator (k + 1) r.runs.part)
-          ∙ ap (λ l. l ++ replies_of (k + 1) r.runs.part) (replies.replies k p.0 p.1)
-          ∙ sym (r.runs.grows k p.0 q p.1 is).replies;
-    }
+  pub has-replies : (done : List Entry) → HasReplies old.progress.items done → HasReplies new.progress.items (done ++ r.runs.part)
+  has-replies done replies = replies-grown old.progress.items new.progress.items r.runs.part r.runs.count r.runs.grows done replies r.runs.mutators

@@ -17,8 +17,8 @@ use Rattle.sessions.specs.Sessions.{Setting, Moment, Needs, ServesNeed, ServesAl
 use Rattle.mutator_calls.specs.declared.need.Need.{Need}
 use Rattle.block_regions.proofs.Lists.{get-some, get-below}
 use Rattle.mm_runtime.specs.declared.progress.Progress.{Progress}
-use Rattle.mm_runtime.specs.declared.progress.End.{End}
-use Rattle.mm_runtime.specs.declared.progress.End.TheVariants as end
+use Rattle.mm_runtime.specs.declared.progress.PartEnd.{PartEnd}
+use Rattle.mm_runtime.specs.declared.progress.PartEnd.TheVariants as end
 use Rattle.mm_runtime.specs.declared.manager.Manager.{Manager}
 use Rattle.managed_heap.specs.declared.place.Placed.{Placed}
 use Rattle.managed_heap.specs.declared.place.Placed.TheVariants as placed
@@ -70,15 +70,15 @@ serves-more t (x ∷ xs) m d refs nums before mid now all needs serves =
     (all.0, all.1, all.2, all.3, all.4, all.5, serves-more t xs m d refs nums all.3 mid now all.6 needs serves)
 
 -- the needs of the first i mutators
-abbrev pub needs_below : List End → ℕ → List ℕ
+abbrev pub needs_below : List PartEnd → ℕ → List ℕ
 needs_below ends i = filter (λ m. is_at_need (causes ends m)) (range_with_len 1 i)
 
-needs-more : (ends : List End) (i : ℕ) (b : Bool) → is_at_need (cause_of (slice_get ends i)) ≡ b → needs_below ends (i + 1) ≡ needs_below ends i ++ cond b (suc i ∷ []) []
+needs-more : (ends : List PartEnd) (i : ℕ) (b : Bool) → is_at_need (cause_of (slice_get ends i)) ≡ b → needs_below ends (i + 1) ≡ needs_below ends i ++ cond b (suc i ∷ []) []
 needs-more ends i b is = ap (filter (λ m. is_at_need (causes ends m))) (range-more i) ∙ filter-append (λ m. is_at_need (causes ends m)) (range_with_len 1 i) (suc i ∷ [])
     ∙ ap (λ x. needs_below ends i ++ cond x (suc i ∷ []) []) is
 
 -- the end of the next part, served or no need
-serves-next : {P : Type 0} (rules : Rules) (ends : List End) (i : ℕ) (e : End) (manager : Manager P) (t : Setting) (before mid now : Moment) → slice_get ends i ≡ Some e → StandsAt rules manager t mid
+serves-next : {P : Type 0} (rules : Rules) (ends : List PartEnd) (i : ℕ) (e : PartEnd) (manager : Manager P) (t : Setting) (before mid now : Moment) → slice_get ends i ≡ Some e → StandsAt rules manager t mid
     → ((need : Need) → e ≡ end.Need need → NeedsNext manager (i + 1) need) → ServesAll t (needs_below ends i) before mid → ServesEnd t (i + 1) e mid now → ServesAll t (needs_below ends (i + 1)) before now
 serves-next rules ends i (end.Need need) manager t before mid now here stands next all serves =
     let at : i + 1 ≡ suc i = omega arith in
@@ -97,19 +97,19 @@ serves-next rules ends i (end.Raised by) manager t before mid now here stands ne
     subst (λ (xs : List ℕ). ServesAll t xs before now) (sym (needs-more ends i false (ap (λ o. is_at_need (cause_of o)) here) ∙ append-nil (needs_below ends i))) (subst (ServesAll t (needs_below ends i) before) (sym serves) all)
 
 -- what the loop keeps: the ends of the first i mutators are served, and the others have no reply more
-pub record ServesBelow {P : Type 0} (rules : Rules) (first : Manager P) (ends : List End) (i : ℕ) (manager : Manager P) : Type 0 where
+pub record ServesBelow {P : Type 0} (rules : Rules) (first : Manager P) (ends : List PartEnd) (i : ℕ) (manager : Manager P) : Type 0 where
   pub order : IsInOrder rules 0 manager
   pub count : length manager.progress.items ≡ length first.progress.items
   pub later : (k : ℕ) → i ≤ k → slice_get manager.progress.items k ≡ slice_get first.progress.items k
   pub replies : replied first.progress.items ≤ replied manager.progress.items
   pub serves : (t : Setting) (now : Moment) → StandsAt rules first t now → (mid : Moment) × ServesAll t (needs_below ends i) now mid × StandsAt rules manager t mid
 
-module _ {P : Type 0} (rules : Rules) (first : Manager P) (ends : List End) (i : ℕ) (manager : Manager P) (below : ServesBelow rules first ends i manager) (stop : IsAtStop rules 0 first) where
+module _ {P : Type 0} (rules : Rules) (first : Manager P) (ends : List PartEnd) (i : ℕ) (manager : Manager P) (below : ServesBelow rules first ends i manager) (stop : IsAtStop rules 0 first) where
   pub stop-below : IsAtStop rules 0 manager
   stop-below = let served = below.serves stop.setting stop.now stop.stands in
       record { order = below.order; setting = stop.setting; now = served.0; stands = served.2 }
 
-  module _ (e : End) (here : slice_get ends i ≡ Some e) (count : length ends ≡ length first.progress.items) (needs : AreNeeds first.progress.items ends) where
+  module _ (e : PartEnd) (here : slice_get ends i ≡ Some e) (count : length ends ≡ length first.progress.items) (needs : AreNeeds first.progress.items ends) where
     pub next-below : (m : ℕ) → m ≡ i + 1 → (need : Need) → e ≡ end.Need need → NeedsNext manager m need
     next-below m at need is = (
       (omega arith),
@@ -133,7 +133,7 @@ module _ {P : Type 0} (rules : Rules) (first : Manager P) (ends : List End) (i :
           (late.0, serves-next rules ends i e manager t now mid.0 late.0 here mid.2 (next-below (i + 1) refl) mid.1 late.1, late.2);
     }
 
-pub serves-all : {P : Type 0} (rules : Rules) (first last : Manager P) (ends : List End) (n : ℕ) → n ≡ length ends → length ends ≡ length first.progress.items → ServesBelow rules first ends n last
+pub serves-all : {P : Type 0} (rules : Rules) (first last : Manager P) (ends : List PartEnd) (n : ℕ) → n ≡ length ends → length ends ≡ length first.progress.items → ServesBelow rules first ends n last
     → (t : Setting) (now : Moment) → StandsAt rules first t now → (mid : Moment) × ServesAll t (filter (λ m. is_at_need (causes ends m)) (traced_mutators t)) now mid × StandsAt rules last t mid
 serves-all rules first last ends n is count below t now stands =
     let many : length t.traces ≡ length first.progress.items = ap length stands.traces ∙ length-map first.progress.items (λ (p : Progress). p.trace) in

@@ -9,8 +9,8 @@ use Rattle.block_regions.proofs.Elements.{set-here, set-other}
 use Rattle.mm_runtime.specs.declared.progress.Progress.{Progress}
 use Rattle.ideal_heap.specs.declared.command.Command.{Command}
 use Rattle.sessions.specs.Sessions.{is_at_gc}
-use Rattle.mm_runtime.specs.declared.progress.End.{End}
-use Rattle.mm_runtime.specs.declared.progress.End.TheVariants as end
+use Rattle.mm_runtime.specs.declared.progress.PartEnd.{PartEnd}
+use Rattle.mm_runtime.specs.declared.progress.PartEnd.TheVariants as end
 use Rattle.mm_runtime.specs.Parts.{cause_of}
 use Rattle.mm_runtime.specs.Managers.{next_in_trace}
 use Rattle.mm_runtime.specs.Replying.{GetsOk, GetsOkIf, RepliesBelow}
@@ -67,7 +67,7 @@ back chosen old new so k after is =
     (was.0, inside, was.1, subst (GetsOkIf (chosen k) was.0) (one-element (slice_get new k) then.0 after then.1 is) then.2)
 
 -- a part that did not end at `gc`
-pub not-gc : (o : Option End) → o ≢ Some end.Gc → is_at_gc (cause_of o) ≡ false
+pub not-gc : (o : Option PartEnd) → o ≢ Some end.Gc → is_at_gc (cause_of o) ≡ false
 not-gc None other = refl
 not-gc (Some end.Gc) other = absurd (other refl)
 not-gc (Some end.Meet) other = refl
@@ -79,7 +79,7 @@ not-gc (Some (end.Raised by)) other = refl
 pub has-next : (p : Progress) (command : Command) → next_in_trace p ≡ Some command → length p.replies.items < length p.trace
 has-next p command next = get-below p.trace (length p.replies.items) command next
 
-abbrev pub is-gc : Option End → Bool
+abbrev pub is-gc : Option PartEnd → Bool
 is-gc o = is_at_gc (cause_of o)
 
 -- a mutator that is not chosen is unchanged

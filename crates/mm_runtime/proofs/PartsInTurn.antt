@@ -12,9 +12,9 @@ use Rattle.managed_heap.specs.Worlds.{PlainWorld, mutator_number_at, births_at, 
 use Rattle.block_regions.proofs.Lists.{one-element, get-below}
 use Rattle.block_regions.proofs.Elements.{set-here, set-other}
 use Rattle.mm_runtime.specs.declared.progress.Progress.{Progress}
-use Rattle.mm_runtime.specs.declared.progress.End.{End}
+use Rattle.mm_runtime.specs.declared.progress.PartEnd.{PartEnd}
 use Rattle.mm_runtime.specs.Managers.{next_in_trace, IsProgress}
-use Rattle.mm_runtime.specs.Parts.{EndsFor, EndedFor, RepliesGrow, RunsTrace, RunsParts}
+use Rattle.mm_runtime.specs.Parts.{IsExhausted, EndsFor, EndedFor, RepliesGrow, RunsTrace, RunsParts}
 use Rattle.mm_runtime.proofs.AnswersInTurn.{answers-none, number-same}
 use Rattle.mm_runtime.proofs.ListFacts.{push-new, push-cases, entries-of, commands-own, replies-own, entries-other, entries-all, all-weaker}
 use Rattle.mm_runtime.proofs.PartEnds.{ended-before, ended-last, word-after}
@@ -46,12 +46,12 @@ parts-none w ps is calm each births = record {
 }
 
 -- the same ends
-pub parts-ends : {P : Type 0} {rules : Rules} (old new : PlainWorld P) (ps qs : List Progress) (n : ℕ) (ends same : List End) → same ≡ ends → RunsParts rules old ps n ends new qs
+pub parts-ends : {P : Type 0} {rules : Rules} (old new : PlainWorld P) (ps qs : List Progress) (n : ℕ) (ends same : List PartEnd) → same ≡ ends → RunsParts rules old ps n ends new qs
     → RunsParts rules old ps n same new qs
-parts-ends {P} {rules} old new ps qs n ends same is runs = subst (λ (l : List End). RunsParts rules old ps n l new qs) (sym is) runs
+parts-ends {P} {rules} old new ps qs n ends same is runs = subst (λ (l : List PartEnd). RunsParts rules old ps n l new qs) (sym is) runs
 
 -- entries of the mutator, and of another
-grows-own : (n : ℕ) (part : List Entry) (es : List Answered) (p between q : Progress) → RepliesGrow n part p between → q.trace ≡ between.trace
+pub grows-own : (n : ℕ) (part : List Entry) (es : List Answered) (p between q : Progress) → RepliesGrow n part p between → q.trace ≡ between.trace
     → q.replies.items ≡ between.replies.items ++ map (λ e. e.reply) es
     → take (length q.replies.items) q.trace ≡ take (length between.replies.items) between.trace ++ map (λ e. e.command) es
     → RepliesGrow n (part ++ entries-of n es) p q
@@ -80,7 +80,7 @@ grows-other k n part es p q other grows =
     }
 
 -- one more part
-module _ {P : Type 0} {rules : Rules} (old mid new : PlainWorld P) (ps qs : List Progress) (m : ℕ) (ends : List End) (between after : Progress) (e : End)
+module _ {P : Type 0} {rules : Rules} (old mid new : PlainWorld P) (ps qs : List Progress) (m : ℕ) (ends : List PartEnd) (between after : Progress) (e : PartEnd)
     (runs : RunsParts rules old ps m ends mid qs) (there : slice_get qs m ≡ Some between) (number : mutator_number_at old m ≡ m + 1)
     (trace : RunsTrace rules mid m between new after) (order : IsProgress after) (births : births_at new m ≤ length after.replies.items)
     (ends_for : EndsFor (stop_word mid) new m (next_in_trace after) e) where
@@ -108,10 +108,10 @@ module _ {P : Type 0} {rules : Rules} (old mid new : PlainWorld P) (ps qs : List
   number-new : mutator_number_at new m ≡ m + 1
   number-new = number-same mid new trace.answers.places m ∙ number-mid
 
-  last-end : (x : End) → slice_get (ends ++ e ∷ []) m ≡ Some x → e ≡ x
+  last-end : (x : PartEnd) → slice_get (ends ++ e ∷ []) m ≡ Some x → e ≡ x
   last-end x is = one-element (slice_get (ends ++ e ∷ []) m) e x (subst (λ (k : ℕ). slice_get (ends ++ e ∷ []) k ≡ Some e) runs.ended (push-new ends e)) is
 
-  earlier-end : (k : ℕ) (x : End) → k ≢ m → slice_get (ends ++ e ∷ []) k ≡ Some x → slice_get ends k ≡ Some x
+  earlier-end : (k : ℕ) (x : PartEnd) → k ≢ m → slice_get (ends ++ e ∷ []) k ≡ Some x → slice_get ends k ≡ Some x
   earlier-end k x other is = elim (push-cases ends e k x is) as (λ _. slice_get ends k ≡ Some x) [
     | inl last ↦ absurd (other (last.0 ∙ runs.ended))
     | inr before ↦ before
@@ -139,8 +139,8 @@ module _ {P : Type 0} {rules : Rules} (old mid new : PlainWorld P) (ps qs : List
     each = at-place (λ j r. IsProgress r) order (λ j r other now. runs.each j r now);
     births = at-place (λ j r. births_at new j ≤ length r.replies.items) births
         (λ j r other now. subst (λ (n : ℕ). n ≤ length r.replies.items) (sym (trace.answers.others j other).1) (runs.births j r now));
-    causes = λ k q x is ended. at-place (λ j r. slice_get (ends ++ e ∷ []) j ≡ Some x → EndedFor new (ends ++ e ∷ []) j (next_in_trace r) x)
-        (λ here. subst (EndedFor new (ends ++ e ∷ []) m (next_in_trace after)) (last-end x here) (ended-last new m (stop_word mid) ends (next_in_trace after) e runs.stop ends_for))
+    causes = λ k q x is ended. at-place (λ j r. slice_get (ends ++ e ∷ []) j ≡ Some x → EndedFor (IsExhausted new) (ends ++ e ∷ []) j (next_in_trace r) x)
+        (λ here. subst (EndedFor (IsExhausted new) (ends ++ e ∷ []) m (next_in_trace after)) (last-end x here) (ended-last new m (stop_word mid) ends (next_in_trace after) e runs.stop ends_for))
         (λ j r other now here. ended-before mid new m j es ends e (next_in_trace r) x trace.answers other (runs.causes j r x now (earlier-end j x other here))) k q is ended;
     stop = word-after new m (stop_word mid) ends (next_in_trace after) e runs.ended number-new runs.stop ends_for;
   }

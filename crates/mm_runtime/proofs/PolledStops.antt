@@ -9,7 +9,7 @@ use Rattle.managed_heap.proofs.Worlds.{numbers-mapped}
 use Rattle.object_model.specs.Objects.{HeapState, word_at}
 use Rattle.std.proofs.Common.{ap}
 
-number-least : (ms : List MutatorState) → AllByRecursion IsMutatorState ms → (n : ℕ) → Contains (numbers_of ms) n → 0 < n
+pub number-least : (ms : List MutatorState) → AllByRecursion IsMutatorState ms → (n : ℕ) → Contains (numbers_of ms) n → 0 < n
 number-least [] all n known = absurd (contains-none n known)
 number-least (m ∷ ms) all n known = elim (contains-cases m.number (numbers_of ms) n known) as (λ _. 0 < n) [
   | inl same ↦ subst (λ (k : ℕ). 0 < k) (sym same) (let least : 1 ≤ m.number = all.0.least in omega arith)

@@ -12,13 +12,13 @@ use Rattle.sessions.specs.Plans.{Rules}
 use Rattle.managed_heap.specs.Worlds.{PlainWorld, IsOpen, stop_word}
 use Rattle.stored_replies.specs.Replies.{Replies}
 use Rattle.mm_runtime.specs.declared.progress.Progress.{Progress}
-use Rattle.mm_runtime.specs.declared.progress.End.{End}
+use Rattle.mm_runtime.specs.declared.progress.PartEnd.{PartEnd}
 use Rattle.mm_runtime.specs.Managers.{next_in_trace, IsProgress}
 use Rattle.mm_runtime.specs.Parts.{AnswersMutator, EndsFor, EndsPart, GetsReply, RunsTrace}
 use Rattle.mm_runtime.proofs.AnswersInTurn.{answers-none, answers-append}
 
 -- one more element is taken
-take-more : {A : Type 0} (xs : List A) (k : ℕ) (x : A) → slice_get xs k ≡ Some x → take (k + 1) xs ≡ take k xs ++ x ∷ []
+pub take-more : {A : Type 0} (xs : List A) (k : ℕ) (x : A) → slice_get xs k ≡ Some x → take (k + 1) xs ≡ take k xs ++ x ∷ []
 take-more xs k x is =
     ap (λ n. take n xs) (add-one k) ∙ take-suc xs k x (slice_get_within xs k x is)
     ∙ ap (λ y. take k xs ++ y ∷ []) (get_or_from_slice_get xs k x x is)
@@ -91,7 +91,7 @@ runs-stopped {P} {rules} old mid new m before between runs answers = record {
   commands = runs.commands;
 }
 
-pub runs-ended : {P : Type 0} {rules : Rules} (old mid new : PlainWorld P) (m : ℕ) (command : Command) (before between after : Progress) (end : End)
+pub runs-ended : {P : Type 0} {rules : Rules} (old mid new : PlainWorld P) (m : ℕ) (command : Command) (before between after : Progress) (end : PartEnd)
     → RunsTrace rules old m before mid between → after.trace ≡ between.trace
     → EndsPart rules mid m command between.replies new after.replies end → RunsTrace rules old m before new after
 runs-ended old mid new m command before between after end runs trace ends =
@@ -116,14 +116,14 @@ module _ {P : Type 0} {rules : Rules} (old mid new : PlainWorld P) (m : ℕ) (co
     stop = gets.stop ∙ calm;
   }
 
-  pub ends-after : (end : End) → EndsPart rules mid m command before new after end → EndsPart rules old m command before new after end
+  pub ends-after : (end : PartEnd) → EndsPart rules mid m command before new after end → EndsPart rules old m command before new after end
   ends-after end ends = record {
     answers = answers-append old mid new m [] [] first ends.answers;
     replies = ends.replies;
     cause = subst (λ (n : ℕ). EndsFor n new m (Some command) end) calm ends.cause;
   }
 
-  pub step-after : (result : Option End) → MatchOption result (GetsReply rules mid m command before new after) (EndsPart rules mid m command before new after)
+  pub step-after : (result : Option PartEnd) → MatchOption result (GetsReply rules mid m command before new after) (EndsPart rules mid m command before new after)
       → MatchOption result (GetsReply rules old m command before new after) (EndsPart rules old m command before new after)
   step-after None gets = gets-after gets
   step-after (Some end) ends = ends-after end ends

@@ -16,8 +16,8 @@ use Rattle.mutator_calls.specs.Effects.{Answered}
 use Rattle.managed_heap.specs.Worlds.{PlainWorld, births_in, heap_of_world, mutator_number_at, births_at, ticket_at, stop_word, epoch_allowance, IsOpen, SamePlaces, AddsEntries}
 use Rattle.stored_replies.specs.Replies.{Replies}
 use Rattle.mm_runtime.specs.declared.progress.Progress.{Progress}
-use Rattle.mm_runtime.specs.declared.progress.End.{End}
-use Rattle.mm_runtime.specs.declared.progress.End.TheVariants as end
+use Rattle.mm_runtime.specs.declared.progress.PartEnd.{PartEnd}
+use Rattle.mm_runtime.specs.declared.progress.PartEnd.TheVariants as end
 use Rattle.mm_runtime.specs.Managers.{next_in_trace, IsProgress}
 
 -- a command that allocates nothing and that no stop serves
@@ -48,7 +48,7 @@ IsExhausted w m = (t : ℕ) × (ticket_at w m ≡ Some t) × (epoch_allowance w 
 
 -- Why a part ends whose mutator, at place m, has this next command. The stop word was `before` and
 -- is that of the world now.
-abbrev pub EndsFor : {P : Type 0} → ℕ → PlainWorld P → ℕ → Option Command → End → Type 0
+abbrev pub EndsFor : {P : Type 0} → ℕ → PlainWorld P → ℕ → Option Command → PartEnd → Type 0
 EndsFor before w m next end.Gc = (next ≡ Some c.Gc) × (stop_word w ≡ mutator_number_at w m)
 EndsFor before w m next end.Meet = (next ≡ Some c.Meet) × (stop_word w ≡ before)
 EndsFor before w m next end.Trace = (next ≡ None) × (stop_word w ≡ before)
@@ -71,7 +71,7 @@ pub record GetsReply {P : Type 0} (rules : Rules) (old : PlainWorld P) (m : ℕ)
 -- the part of the mutator at place m ends at this command, and it gets no reply
 pub record EndsPart {P : Type 0} (rules : Rules) (old : PlainWorld P) (m : ℕ) (command : Command)
     (before : Replies)
-    (new : PlainWorld P) (after : Replies) (end : End) : Type 0 where
+    (new : PlainWorld P) (after : Replies) (end : PartEnd) : Type 0 where
   pub answers : AnswersMutator rules old m [] new
   pub replies : after ≡ before
   pub cause : EndsFor (stop_word old) new m (Some command) end
@@ -96,7 +96,7 @@ pub record RepliesGrow (number : ℕ) (part : List Entry) (before after : Progre
       ≡ take (length before.replies.items) before.trace ++ commands_of number part
 
 -- a mutator at `gc` or at a need raises a stop
-abbrev pub raises_stop : End → Bool
+abbrev pub raises_stop : PartEnd → Bool
 raises_stop end.Gc = true
 raises_stop end.Meet = false
 raises_stop end.Trace = false
@@ -104,26 +104,28 @@ raises_stop (end.Need need) = true
 raises_stop (end.Raised by) = false
 
 -- the number is that of a mutator whose end raises a stop
-pub record EndRaisesStop (ends : List End) (number : ℕ) : Type 0 where
+pub record EndRaisesStop (ends : List PartEnd) (number : ℕ) : Type 0 where
   pub place : ℕ
-  pub end : End
+  pub end : PartEnd
   pub is : slice_get ends place ≡ Some end
   pub raises : raises_stop end ≡ true
   pub number_is : number ≡ place + 1
 
 -- Why the part of the mutator at place m ended, whose next command is this, if the parts of the
--- mutators ended so. It holds in the world after all these parts.
-abbrev pub EndedFor : {P : Type 0} → PlainWorld P → List End → ℕ → Option Command → End → Type 0
-EndedFor w ends m next end.Gc = next ≡ Some c.Gc
-EndedFor w ends m next end.Meet = next ≡ Some c.Meet
-EndedFor w ends m next end.Trace = next ≡ None
-EndedFor w ends m next (end.Need need) = (next ≡ Some (c.New need.register need.refs need.nums))
-    × (size_of need.refs need.nums ≤ MAX_MEDIUM_WORDS → IsExhausted w m)
-EndedFor w ends m next (end.Raised by) = (next ≢ None) × EndRaisesStop ends by
+-- mutators ended so, and the mutators at the places `spent` have a ticket that is not below the
+-- allowance.
+abbrev pub EndedFor : (ℕ → Type 0) → List PartEnd → ℕ → Option Command → PartEnd → Type 0
+EndedFor spent ends m next end.Gc = next ≡ Some c.Gc
+EndedFor spent ends m next end.Meet = next ≡ Some c.Meet
+EndedFor spent ends m next end.Trace = next ≡ None
+EndedFor spent ends m next (end.Need need) =
+    (next ≡ Some (c.New need.register need.refs need.nums))
+    × (size_of need.refs need.nums ≤ MAX_MEDIUM_WORDS → spent m)
+EndedFor spent ends m next (end.Raised by) = (next ≢ None) × EndRaisesStop ends by
 
 -- The parts of the first n mutators, whose numbers are their places counted from 1.
 pub record RunsParts {P : Type 0} (rules : Rules) (old : PlainWorld P) (before : List Progress)
-    (n : ℕ) (ends : List End) (new : PlainWorld P)
+    (n : ℕ) (ends : List PartEnd) (new : PlainWorld P)
     (after : List Progress) : Type 0 where
   pub is_open : IsOpen rules new
   pub places : SamePlaces old new
@@ -137,13 +139,13 @@ pub record RunsParts {P : Type 0} (rules : Rules) (old : PlainWorld P) (before :
   pub each : (k : ℕ) (q : Progress) → slice_get after k ≡ Some q → IsProgress q
   pub births : (k : ℕ) (q : Progress) → slice_get after k ≡ Some q
       → births_at new k ≤ length q.replies.items
-  pub causes : (k : ℕ) (q : Progress) (e : End) → slice_get after k ≡ Some q
+  pub causes : (k : ℕ) (q : Progress) (e : PartEnd) → slice_get after k ≡ Some q
       → slice_get ends k ≡ Some e
-      → EndedFor new ends k (next_in_trace q) e
+      → EndedFor (IsExhausted new) ends k (next_in_trace q) e
   pub stop : (stop_word new ≡ 0) ⊎ EndRaisesStop ends (stop_word new)
 
 -- the cause of the definitions
-abbrev pub cause_of : Option End → Cause
+abbrev pub cause_of : Option PartEnd → Cause
 cause_of None = AtEnd
 cause_of (Some end.Gc) = AtGc
 cause_of (Some end.Meet) = AtMeet
@@ -152,16 +154,16 @@ cause_of (Some (end.Need need)) = AtNeed
 cause_of (Some (end.Raised by)) = Raised by
 
 -- the causes of some mutators' ends, by their numbers
-abbrev pub causes : List End → ℕ → Cause
+abbrev pub causes : List PartEnd → ℕ → Cause
 causes ends zero = AtEnd
 causes ends (suc k) = cause_of (slice_get ends k)
 
 -- a mutator whose part ended at `gc` or at a need has that command next
-abbrev pub AreGcs : List Progress → List End → Type 0
+abbrev pub AreGcs : List Progress → List PartEnd → Type 0
 AreGcs ps ends = (k : ℕ) (p : Progress) → slice_get ps k ≡ Some p → slice_get ends k ≡ Some end.Gc
     → next_in_trace p ≡ Some c.Gc
 
-abbrev pub AreNeeds : List Progress → List End → Type 0
+abbrev pub AreNeeds : List Progress → List PartEnd → Type 0
 AreNeeds ps ends = (k : ℕ) (p : Progress) (need : Need) → slice_get ps k ≡ Some p
     → slice_get ends k ≡ Some (end.Need need)
     → next_in_trace p ≡ Some (c.New need.register need.refs need.nums)

@@ -4,8 +4,8 @@ use Rattle.ideal_heap.specs.declared.command.Command.{Command}
 use Rattle.ideal_heap.specs.declared.reply.Reply.TheVariants as r
 use Rattle.sessions.specs.Sessions.{is_at_gc, is_at_meet}
 use Rattle.mm_runtime.specs.declared.progress.Progress.{Progress}
-use Rattle.mm_runtime.specs.declared.progress.End.{End}
-use Rattle.mm_runtime.specs.declared.progress.End.TheVariants as end
+use Rattle.mm_runtime.specs.declared.progress.PartEnd.{PartEnd}
+use Rattle.mm_runtime.specs.declared.progress.PartEnd.TheVariants as end
 use Rattle.mm_runtime.specs.Managers.{next_in_trace, IsProgress}
 use Rattle.mm_runtime.specs.Parts.{cause_of}
 use Rattle.mm_runtime.specs.Stops.{with_reply}
@@ -29,11 +29,11 @@ abbrev pub next_at : List Progress → ℕ → Option Command
 next_at ps k = next_if (slice_get ps k)
 
 -- the part of the mutator at place k ended at `gc`
-abbrev pub is_gc_at : List End → ℕ → Bool
+abbrev pub is_gc_at : List PartEnd → ℕ → Bool
 is_gc_at ends k = is_at_gc (cause_of (slice_get ends k))
 
 -- some mutator's part ended at `gc`
-abbrev pub HasGc : List End → Type 0
+abbrev pub HasGc : List PartEnd → Type 0
 HasGc ends = (k : ℕ) × (slice_get ends k ≡ Some end.Gc)
 
 -- the mutator at place k is at `meet`

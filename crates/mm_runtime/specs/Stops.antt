@@ -8,8 +8,8 @@ use Rattle.mutator_calls.specs.declared.need.Need.{Need}
 use Rattle.managed_heap.specs.declared.place.Placed.{Placed}
 use Rattle.managed_heap.specs.declared.place.Placed.TheVariants as placed
 use Rattle.mm_runtime.specs.declared.progress.Progress.{Progress}
-use Rattle.mm_runtime.specs.declared.progress.End.{End}
-use Rattle.mm_runtime.specs.declared.progress.End.TheVariants as end
+use Rattle.mm_runtime.specs.declared.progress.PartEnd.{PartEnd}
+use Rattle.mm_runtime.specs.declared.progress.PartEnd.TheVariants as end
 use Rattle.mm_runtime.specs.declared.manager.Manager.{Manager}
 use Rattle.mm_runtime.specs.Managers.{next_in_trace, replied as replied_in}
 
@@ -46,7 +46,7 @@ MatchPlaced (placed.Placed n) P Q = P n
 MatchPlaced (placed.HeapFull size) P Q = Q size
 
 -- the end of the part of mutator m is served, if it is a need
-abbrev pub ServesEnd : Setting → ℕ → End → Moment → Moment → Type 0
+abbrev pub ServesEnd : Setting → ℕ → PartEnd → Moment → Moment → Type 0
 ServesEnd t m (end.Need need) before now =
     ServesNeed t m need.register need.refs need.nums before now
 ServesEnd t m end.Gc before now = now ≡ before

@@ -9,7 +9,7 @@ ghost use Rattle.mm_runtime.specs.Prelude.{Setting, Moment, CollectsFor, is_at_g
 ghost use Rattle.mm_runtime.specs.Prelude.end_is;
 
 use crate::manager::Manager;
-use crate::progress::{End, Progress, reply_ok};
+use crate::progress::{PartEnd, Progress, reply_ok};
 use managed_heap::Scheduler;
 use object_model::Collect;
 use plan_api::Plan;
@@ -19,11 +19,11 @@ use std::thread::Threads;
 use work_packets::Gate;
 
 /// Whether a mutator's part ended at `gc`.
-fn some_gc(ends: &[End]) -> bool
+fn some_gc(ends: &[PartEnd]) -> bool
     ensures { IsTrue result ↔ HasGc ends.now }
 {
     for end in ends {
-        if let End::Gc = end {
+        if let PartEnd::Gc = end {
             return true;
         }
     }
@@ -31,7 +31,7 @@ fn some_gc(ends: &[End]) -> bool
 }
 
 /// Replies `ok` to each mutator whose part ended at `gc`.
-fn reply_to_gcs(progress: &mut Vec<Progress>, ends: &[End])
+fn reply_to_gcs(progress: &mut Vec<Progress>, ends: &[PartEnd])
     requires count { length ends.now ≡ length progress.old.items }
     requires each { (k : ℕ) (p : State)
         → slice_get progress.old.items k ≡ Some p → IsProgress p }
@@ -40,7 +40,7 @@ fn reply_to_gcs(progress: &mut Vec<Progress>, ends: &[End])
         progress.old.items progress.new.items }
 {
     for (m, end) in ends.iter().enumerate() {
-        if let End::Gc = end {
+        if let PartEnd::Gc = end {
             reply_ok(&mut progress[m]);
         }
     }
@@ -53,7 +53,7 @@ impl<P: Plan> Manager<P> {
     pub(crate) fn collect_at<Q: Pool, G: Gate, R: Threads + Sync>(
         self,
         scheduler: &Scheduler<'_, R, Q, G>,
-        ends: &[End],
+        ends: &[PartEnd],
     ) -> Result<Manager<P>, AllocError>
         requires plan { IsManaged P.rules }
         requires stop { IsAtStop P.rules 0 self }

@@ -5,11 +5,11 @@
 //! writes the counts of collections.
 
 ghost use Rattle.std.specs.Prelude.{◌≡◌, ◌+◌, ◌<◌, ◌≤◌, ℕ, length, slice_get, Some, IfOk};
-ghost use Rattle.mm_runtime.specs.Prelude.{Setting, Moment, RunsPart, births_at, mutator_number_at, places_of, stop_word, IsOpen, replied, IsProgress, Closes, IsInOrder, ClosesSome, StandsAt, IsManaged, causes, AreGcs, AreNeeds, RunsParts};
+ghost use Rattle.mm_runtime.specs.Prelude.{births_at, mutator_number_at, places_of, stop_word, IsOpen, replied, IsProgress, IsInOrder, ClosesSome, EndsParts, IsManaged, AreGcs, AreNeeds, RunsParts};
 
 use crate::manager::Manager;
 use crate::part::run_part;
-use crate::progress::{End, Progress};
+use crate::progress::{PartEnd, Progress};
 use ideal_heap::MAX_MUTATORS;
 use managed_heap::{Parts, PlainWorld, StoppedHeap};
 use plan_api::Plan;
@@ -22,7 +22,7 @@ fn run_parts<P: Plan, G: Gate>(
     world: &mut PlainWorld<P>,
     progress: &mut Vec<Progress>,
     gate: &G,
-) -> Result<Vec<End>, AllocError>
+) -> Result<Vec<PartEnd>, AllocError>
     requires open { IsOpen P.rules world.old }
     requires few { places_of world.old ≤ MAX_MUTATORS }
     requires places { places_of world.old ≡ length progress.old.items }
@@ -44,13 +44,14 @@ fn run_parts<P: Plan, G: Gate>(
 
 impl<P: Plan> Manager<P> {
     /// Runs an epoch. Returns how each mutator's part of it ended.
-    pub(crate) fn run_epoch<G: Gate>(self, gate: &G) -> Result<(Manager<P>, Vec<End>), AllocError>
+    pub(crate) fn run_epoch<G: Gate>(
+        self,
+        gate: &G,
+    ) -> Result<(Manager<P>, Vec<PartEnd>), AllocError>
         requires plan { IsManaged P.rules }
         requires ready { ClosesSome P.rules self }
         ensures order { IfOk result (λ r. IsInOrder P.rules 0 r.0) }
-        ensures part { (t : Setting) (now : Moment) → Closes P.rules self t now
-            → IfOk result (λ r. (stop : Moment) × RunsPart t now (causes r.1.items) stop
-            × StandsAt P.rules r.0 t stop) }
+        ensures part { IfOk result (λ r. EndsParts P.rules self r.1.items r.0) }
         ensures count { IfOk result (λ r. length r.1.items ≡ length r.0.progress.items) }
         ensures gcs { IfOk result (λ r. AreGcs r.0.progress.items r.1.items) }
         ensures needs { IfOk result (λ r. AreNeeds r.0.progress.items r.1.items) }
@@ -78,6 +79,7 @@ impl<P: Plan> Manager<P> {
             roots: parts.roots,
             nursery: parts.nursery,
             full: parts.full,
+            workers: parts.workers,
         };
         let heap = StoppedHeap::from_parts(alloc, parts);
         let manager = Manager {

@@ -5,9 +5,10 @@
 //! never written.
 
 ghost use Rattle.std.specs.Prelude.{◌≡◌, ◌↔◌, ◌<◌, ◌≤◌, ℕ, All, Some, length, slice_get, IfOk, IsTrue};
-ghost use Rattle.mm_runtime.specs.Prelude.{MIN_BLOCKS, MAX_BLOCKS, Setting, Moment, IsEpoch, IsWhole, first_moment, State, left, traces_of, replied, Closes, IsFresh, ClosesSome, IsRunnableTrace, HasEnded, IsManaged, lists_of};
+ghost use Rattle.mm_runtime.specs.Prelude.{MIN_BLOCKS, MAX_BLOCKS, Setting, Moment, IsEpoch, IsWhole, first_moment, State, left, traces_of, replied, Closes, IsFresh, ClosesSome, IsRunnableTrace, HasEnded, IsManaged, IsInOrder, IsAtStop, AreGcs, AreNeeds, EndsParts, MakesEpoch, lists_of};
 
-use crate::progress::Progress;
+use crate::progress::{PartEnd, Progress};
+use collector::MAX_WORKERS;
 use heap_layout::Layout;
 use ideal_heap::{Command, MAX_MUTATORS};
 use managed_heap::{Scheduler, StoppedHeap};
@@ -59,8 +60,8 @@ fn all_progress(alloc: Global, traces: Vec<StoredTrace>) -> Result<Vec<Progress>
 }
 
 impl<P: Plan> Manager<P> {
-    /// A manager of an empty heap, whose mutators have run nothing of their traces yet. Takes the
-    /// memory for the heap and for all replies.
+    /// A manager of an empty heap, whose mutators have run nothing of their traces yet. Each of its
+    /// collections has so many workers. Takes the memory for the heap and for all replies.
     ///
     /// Fails if memory runs out.
     pub fn begin(
@@ -69,7 +70,8 @@ impl<P: Plan> Manager<P> {
         traces: Vec<Vec<Command>>,
         workers: u32,
     ) -> Result<Manager<P>, AllocError>
-        requires workers { workers ≡ 1 }
+        requires some_worker { 1 ≤ workers }
+        requires few_workers { workers ≤ MAX_WORKERS }
         requires some { 1 ≤ length traces.items }
         requires few { length traces.items ≤ MAX_MUTATORS }
         requires runnable { All IsRunnableTrace (lists_of traces.items) }
@@ -91,7 +93,8 @@ impl<P: Plan> Manager<P> {
         traces: Vec<StoredTrace>,
         workers: u32,
     ) -> Result<Manager<P>, AllocError>
-        requires workers { workers ≡ 1 }
+        requires some_worker { 1 ≤ workers }
+        requires few_workers { workers ≤ MAX_WORKERS }
         requires some { 1 ≤ length traces.items }
         requires few { length traces.items ≤ MAX_MUTATORS }
         requires runnable { All IsRunnableTrace (traces.items) }
@@ -100,14 +103,39 @@ impl<P: Plan> Manager<P> {
             → t.blocks ≡ layout.blocks → t.workers ≡ workers
             → t.traces ≡ traces.items → Closes P.rules m t (first_moment t)) }
     {
-        let _one = workers;
-        let heap = StoppedHeap::new(alloc, layout, traces.len() as u32)?;
+        let heap = StoppedHeap::new(alloc, layout, traces.len() as u32, workers)?;
         let progress = all_progress(alloc, traces)?;
         Ok(Manager {
             alloc,
             heap,
             progress,
         })
+    }
+
+    /// Makes the stop of an epoch whose parts ended so, in the order of the mutators. The packets
+    /// of collections run in the scheduler's pool.
+    ///
+    /// Fails if memory runs out. The manager is lost then.
+    pub(crate) fn make_stop<Q: Pool, G: Gate, R: Threads + Sync>(
+        self,
+        scheduler: &Scheduler<'_, R, Q, G>,
+        ends: &[PartEnd],
+    ) -> Result<(Manager<P>, Turn), AllocError>
+        requires plan { IsManaged P.rules }
+        requires stop { IsAtStop P.rules 0 self }
+        requires count { length ends.now ≡ length self.progress.items }
+        requires gcs { AreGcs self.progress.items ends.now }
+        requires needs { AreNeeds self.progress.items ends.now }
+        ensures order { IfOk result (λ r. IsInOrder P.rules 0 r.0) }
+        ensures epoch { (old : Manager P) → EndsParts P.rules old ends.now self
+            → IfOk result (λ r. MakesEpoch P.rules old r.0) }
+        ensures ended { IfOk result (λ r. (r.1 ≡ Turn.Ended) ↔ HasEnded r.0) }
+    {
+        let manager = self.collect_at(scheduler, ends)?;
+        let mut manager = manager.serve_needs(scheduler, ends)?;
+        manager.meet();
+        let turn = manager.turn();
+        Ok((manager, turn))
     }
 
     /// Runs one epoch and its stop: each mutator runs until it stops, and then collections are made
@@ -136,10 +164,7 @@ impl<P: Plan> Manager<P> {
     {
         let (manager, ends) = self.run_epoch(gate)?;
         let scheduler = Scheduler { rt, pool, gate };
-        let manager = manager.collect_at(&scheduler, &ends)?;
-        let mut manager = manager.serve_needs(&scheduler, &ends)?;
-        manager.meet();
-        let turn = manager.turn();
+        let (manager, turn) = manager.make_stop(&scheduler, &ends)?;
         Ok((manager, turn))
     }
 }

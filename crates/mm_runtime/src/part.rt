@@ -5,7 +5,7 @@ ghost use Rattle.mm_runtime.specs.Prelude.{IsValid, HasPlace, IsOpen, births_at,
 ghost use Rattle.mm_runtime.specs.Prelude.command_is;
 
 use crate::perform::perform;
-use crate::progress::{End, Progress};
+use crate::progress::{PartEnd, Progress};
 use ideal_heap::{Command, MAX_MUTATORS, MAX_NUMS, MAX_REFS, REGISTERS, Reply};
 use managed_heap::PlainWorld;
 use mutator_calls::{Allocated, Polled};
@@ -24,7 +24,7 @@ fn allocate<P: Plan, G: Gate>(
     nums: u32,
     replies: &mut StoredReplies,
     gate: &G,
-) -> Option<End>
+) -> Option<PartEnd>
     requires open { IsOpen P.rules world.old }
     requires place { HasPlace world.old place }
     requires few { places_of world.old ≤ MAX_MUTATORS }
@@ -49,7 +49,7 @@ fn allocate<P: Plan, G: Gate>(
         }
         Allocated::Stop(need) => {
             world.raise(place);
-            Some(End::Need(need))
+            Some(PartEnd::Need(need))
         }
     }
 }
@@ -61,7 +61,7 @@ fn step<P: Plan, G: Gate>(
     stored: StoredCommand<'_>,
     replies: &mut StoredReplies,
     gate: &G,
-) -> Option<End>
+) -> Option<PartEnd>
     requires open { IsOpen P.rules world.old }
     requires place { HasPlace world.old place }
     requires few { places_of world.old ≤ MAX_MUTATORS }
@@ -74,15 +74,15 @@ fn step<P: Plan, G: Gate>(
 {
     gate.pass(place + 1, Point::Poll);
     if let Polled::Raised(by) = world.poll(place) {
-        return Some(End::Raised(by));
+        return Some(PartEnd::Raised(by));
     }
     let command = stored.command();
     match command {
         Command::Gc => {
             world.raise(place);
-            Some(End::Gc)
+            Some(PartEnd::Gc)
         }
-        Command::Meet => Some(End::Meet),
+        Command::Meet => Some(PartEnd::Meet),
         Command::New { d, refs, nums } => allocate(world, place, d, refs, nums, replies, gate),
         _ => {
             perform(world, place, command, replies);
@@ -97,7 +97,7 @@ pub(crate) fn run_part<P: Plan, G: Gate>(
     place: u32,
     progress: &mut Progress,
     gate: &G,
-) -> End
+) -> PartEnd
     requires open { IsOpen P.rules world.old }
     requires place { HasPlace world.old place }
     requires few { places_of world.old ≤ MAX_MUTATORS }
@@ -114,5 +114,5 @@ pub(crate) fn run_part<P: Plan, G: Gate>(
             return end;
         }
     }
-    End::Trace
+    PartEnd::Trace
 }

@@ -21,7 +21,7 @@ pub(crate) struct Progress {
 
 /// Why a mutator's part of an epoch ended.
 #[derive(Clone, Copy, Debug)]
-pub(crate) enum End {
+pub enum PartEnd {
     /// Its next command is `gc`.
     Gc,
     /// Its next command is `meet`.

@@ -8,7 +8,7 @@ ghost use Rattle.std.specs.Prelude.{◌≡◌, ◌≤◌, ℕ, filter, length, I
 ghost use Rattle.mm_runtime.specs.Prelude.{Setting, Moment, ServesAll, is_at_need, traced_mutators, replied, IsAtStop, IsInOrder, StandsAt, IsManaged, Need, causes, AreNeeds, NeedsNext, ServesEnd, AddsReply};
 
 use crate::manager::Manager;
-use crate::progress::End;
+use crate::progress::PartEnd;
 use managed_heap::Scheduler;
 use plan_api::Plan;
 use pools::Pool;
@@ -22,19 +22,19 @@ impl<P: Plan> Manager<P> {
         self,
         scheduler: &Scheduler<'_, R, Q, G>,
         number: u32,
-        end: End,
+        end: PartEnd,
     ) -> Result<Manager<P>, AllocError>
         requires plan { IsManaged P.rules }
         requires stop { IsAtStop P.rules 0 self }
         requires least { 1 ≤ number }
-        requires next { (need : Need) → end ≡ End.Need need → NeedsNext self number need }
+        requires next { (need : Need) → end ≡ PartEnd.Need need → NeedsNext self number need }
         ensures order { IfOk result (λ r. IsInOrder P.rules 0 r) }
         ensures serves { (t : Setting) (now : Moment) → StandsAt P.rules self t now
             → IfOk result (λ r. (next : Moment) × ServesEnd t number end now next
             × StandsAt P.rules r t next) }
         ensures replies { IfOk result (λ r. AddsReply self number r) }
     {
-        let End::Need(need) = end else {
+        let PartEnd::Need(need) = end else {
             return Ok(self);
         };
         let Scheduler { rt, pool, gate } = *scheduler;
@@ -46,7 +46,7 @@ impl<P: Plan> Manager<P> {
     pub(crate) fn serve_needs<Q: Pool, G: Gate, R: Threads + Sync>(
         self,
         scheduler: &Scheduler<'_, R, Q, G>,
-        ends: &[End],
+        ends: &[PartEnd],
     ) -> Result<Manager<P>, AllocError>
         requires plan { IsManaged P.rules }
         requires stop { IsAtStop P.rules 0 self }

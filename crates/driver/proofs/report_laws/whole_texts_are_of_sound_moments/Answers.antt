@@ -4,7 +4,7 @@ use Rattle.sessions.proofs.Soundness.{session-sound}
 use Rattle.sessions.proofs.StopSteps.{session-blocks}
 use Rattle.command_line.specs.Words.{Work, Files, Made}
 use Rattle.driver.specs.Printed.{Content, AreTracesOf, IsTextOf, IsWithinLimits, setting_of}
-use Rattle.driver.proofs.Jobs.{job-supported, job-blocks, job-work}
+use Rattle.driver.proofs.Jobs.{job-blocks, job-work}
 use Rattle.driver.proofs.OneTrace.{trace-number}
 use Rattle.driver.proofs.report_laws.whole_texts_are_of_sound_moments.Goals as goal
 
@@ -15,7 +15,7 @@ few-traces content (Made n) traces within are = let one : length traces ≡ 1 = 
 
 pub returns-clause-sound : goal.returns-clause-sound
 returns-clause-sound c words job content traces text named are w =
-    let form = (job-supported words job (sym named)).1 in
+    let form = named in
     let bounds = job-blocks words job form in
     session-sound (setting_of job traces) w.last bounds.0 bounds.1
     (few-traces content job.work traces (job-work words job form) are) w.whole.session

@@ -4,7 +4,7 @@ use Rattle.command_line.specs.Orders.{texts, job_of_order}
 use Rattle.driver.specs.declared.status.Status.TheVariants as status
 use Rattle.driver.specs.Printed.{job_files, WritesFaultLine}
 use Rattle.driver.proofs.Ends.{one-of, not-ok, not-usage, not-unwritten, unread-end, long-end, bad-end, memory-end, long-status, bad-status, good-status}
-use Rattle.driver.proofs.Jobs.{job-supported, job-blocks, job-work}
+use Rattle.driver.proofs.Jobs.{job-blocks, job-work, job-workers}
 use Rattle.driver.proofs.JoinedFiles.{long-off, bad-off}
 use Rattle.driver.proofs.Outcomes.{of-job, named-job, traces-clash-of, prints, prints-prefix}
 use Rattle.driver.proofs.runs.run.Goals as goal
@@ -83,22 +83,24 @@ returns-in-Err-traces_of_order-clause-complete g c =
     let ends = c.in-Err-traces_of_order.ensures.fault in
     of-job _ job _ named (λ good calm _. subst (λ s. (s ≡ status.Ok) ⊎ (s ≡ status.OutOfMemory)) (sym c.status.ensures) (good-status job _ _ c.in-Err-traces_of_order.first.place c.in-Err-traces_of_order.first.fault ends good calm))
 
-pub text_of_session-requires-clause-supported : goal.text_of_session-requires-clause-supported
-text_of_session-requires-clause-supported g c κs within =
-    (job-supported (texts c.args.words.now) (job_of_order c.in-Ok-Some.order) (named-job _ c.in-Ok-Some.order _ c.in-Ok-Some.field-0-is c.in-Ok-Some.ensures)).0
+pub text_of_session-requires-clause-some_worker : goal.text_of_session-requires-clause-some_worker
+text_of_session-requires-clause-some_worker g c κs within = (job-workers (texts c.args.words.now) (job_of_order c.in-Ok-Some.order) (sym (named-job _ c.in-Ok-Some.order _ c.in-Ok-Some.field-0-is c.in-Ok-Some.ensures))).0
+
+pub text_of_session-requires-clause-few_workers : goal.text_of_session-requires-clause-few_workers
+text_of_session-requires-clause-few_workers g c κs within = (job-workers (texts c.args.words.now) (job_of_order c.in-Ok-Some.order) (sym (named-job _ c.in-Ok-Some.order _ c.in-Ok-Some.field-0-is c.in-Ok-Some.ensures))).1
 
 pub text_of_session-requires-clause-least : goal.text_of_session-requires-clause-least
 text_of_session-requires-clause-least g c κs within =
-    (job-blocks (texts c.args.words.now) (job_of_order c.in-Ok-Some.order) (job-supported (texts c.args.words.now) (job_of_order c.in-Ok-Some.order) (named-job _ c.in-Ok-Some.order _ c.in-Ok-Some.field-0-is c.in-Ok-Some.ensures)).1).0
+    (job-blocks (texts c.args.words.now) (job_of_order c.in-Ok-Some.order) (sym (named-job _ c.in-Ok-Some.order _ c.in-Ok-Some.field-0-is c.in-Ok-Some.ensures))).0
 
 pub text_of_session-requires-clause-most : goal.text_of_session-requires-clause-most
 text_of_session-requires-clause-most g c κs within =
-    (job-blocks (texts c.args.words.now) (job_of_order c.in-Ok-Some.order) (job-supported (texts c.args.words.now) (job_of_order c.in-Ok-Some.order) (named-job _ c.in-Ok-Some.order _ c.in-Ok-Some.field-0-is c.in-Ok-Some.ensures)).1).1
+    (job-blocks (texts c.args.words.now) (job_of_order c.in-Ok-Some.order) (sym (named-job _ c.in-Ok-Some.order _ c.in-Ok-Some.field-0-is c.in-Ok-Some.ensures))).1
 
 pub traces_of_order-requires : goal.traces_of_order-requires
 traces_of_order-requires g c =
     let job = job_of_order c.in-Ok-Some.order in
-    job-work (texts c.args.words.now) job (job-supported (texts c.args.words.now) job (named-job _ c.in-Ok-Some.order _ c.in-Ok-Some.field-0-is c.in-Ok-Some.ensures)).1
+    job-work (texts c.args.words.now) job (sym (named-job _ c.in-Ok-Some.order _ c.in-Ok-Some.field-0-is c.in-Ok-Some.ensures))
 
 pub returns-then-is_err-clause-write_fault : goal.returns-then-is_err-clause-write_fault
 returns-then-is_err-clause-write_fault g c is =

@@ -8,13 +8,13 @@ use Rattle.driver.proofs.Outcomes.{on-ok, text-of-files, text-of-made}
 use Rattle.driver.proofs.session_runs.text_under.Goals as goal
 
 pub returns-in-Files : goal.returns-in-Files
-returns-in-Files g c plan blocks one =
+returns-in-Files g c plan blocks =
     let job = job_of_order c.args.order.now in
     let traces = c.args.traces.items in
     let n = length traces in
     let t : Setting = setting_of job traces in
     let rules : t.rules ≡ g.P.Plan.rules = ap rules_of plan ∙ sym g.met.P.Plan.rules_are_of_plan in
-    let whole = c.in_ok-manager.ensures.whole t rules blocks one refl in
+    let whole = c.in_ok-manager.ensures.whole t rules blocks refl refl in
     on-ok c.session_text.result (λ v. IsSessionText g.P.Plan.plan n job.map whole.0 v.items) (λ v. IsWholeText job traces v.items)
     (λ v text. record {
       last = whole.0;
@@ -24,13 +24,13 @@ returns-in-Files g c plan blocks one =
     (c.session_text.ensures t whole.0 whole.2)
 
 pub returns : goal.returns
-returns g c plan blocks one =
+returns g c plan blocks =
     let job = job_of_order c.args.order.now in
     let traces = c.args.traces.items in
     let n = length traces in
     let t : Setting = setting_of job traces in
     let rules : t.rules ≡ g.P.Plan.rules = ap rules_of plan ∙ sym g.met.P.Plan.rules_are_of_plan in
-    let whole = c.in_ok-manager.ensures.whole t rules blocks one refl in
+    let whole = c.in_ok-manager.ensures.whole t rules blocks refl refl in
     on-ok c.summary_text.result (λ v. IsSummary c.in-Made.commands whole.0 v.items) (λ v. IsWholeText job traces v.items)
     (λ v text. record {
       last = whole.0;

@@ -4,7 +4,7 @@ use Rattle.std.proofs.lemmas.Option.{get_or_from_slice_get}
 use Rattle.std.specs.declared.alloc.Global.{Global}
 use Rattle.mm_runtime.specs.declared.progress.Progress.{Progress}
 use Rattle.block_regions.proofs.Elements.{read-some}
-use Rattle.mm_runtime.specs.declared.progress.End.TheVariants as end
+use Rattle.mm_runtime.specs.declared.progress.PartEnd.TheVariants as end
 use Rattle.mm_runtime.specs.Replying.{is_gc_at, RepliesBelow}
 use Rattle.mm_runtime.proofs.OkSteps as replied
 use Rattle.mm_runtime.proofs.collections_at_gc.reply_to_gcs.Goals as goal

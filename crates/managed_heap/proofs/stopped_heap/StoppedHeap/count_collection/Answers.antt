@@ -13,7 +13,7 @@ from_row-heap-requires g c = lawful-counted (state_of c.into_row-row.result) c.i
 pub returns-clause-collected : goal.returns-clause-collected
 returns-clause-collected g c =
     counted-collection g.P.Plan.plan g.P.Plan.rules g.met.P.Plan.rules_are_of_plan c.args.self _ c.requires.stopped c.requires.none
-    (c.from_row-heap.ensures ∙ ap counted c.into_row-row.ensures.state) refl refl c.renew_notes.ensures.notes c.renew_notes.ensures.flags
+    (c.from_row-heap.ensures ∙ ap counted c.into_row-row.ensures.state) refl refl refl c.renew_notes.ensures.notes c.renew_notes.ensures.flags
 
 pub returns-clause-stopped : goal.returns-clause-stopped
 returns-clause-stopped g c = let made = returns-clause-collected g c in stopped-made g.P.Plan.rules Full c.args.self _ made.0 made.1 c.requires.stopped

@@ -8,7 +8,7 @@ use Rattle.managed_heap.specs.Needs.{IsNoteOfLast, NotesLast}
 use Rattle.managed_heap.specs.Stopped.{collections_of}
 use Rattle.managed_heap.proofs.NeedsWritten as putting
 use Rattle.managed_heap.proofs.BirthCounts.{may-kept}
-use Rattle.managed_heap.proofs.LastNotes.{if-told, last-of-need}
+use Rattle.managed_heap.proofs.LastNotes.{if-known, last-of-need}
 use Rattle.managed_heap.proofs.Noted as noted
 use Rattle.managed_heap.proofs.ServedNeeds as serving
 use Rattle.managed_heap.proofs.stopped_heap.StoppedHeap.place_or_collect.Goals as goal
@@ -110,9 +110,9 @@ returns-clause-noted g c = λ asked.
     (noted.known-found g.P.Plan.rules c.args.self c.find_place.new.self c.find_place.ensures.rest c.find_place.ensures.notes c.find_place.ensures.flags c.requires.stopped.order.flags)
     c.in_ok-stopped.ensures.noted.1 c.place_or_refuse-stopped.ensures.counts)
 
-pub returns-clause-told : goal.returns-clause-told
-returns-clause-told g c =
-    if-told (IsNoteOfLast g.P.Plan.rules c.args.self c.place_or_refuse-stopped.result.0) c.in_ok-stopped.note c.in_ok-stopped.ensures.noted.0 c.in_ok-stopped.ensures.noted.3 (last-of-need g.P.Plan.rules c.args.self c.find_place.new.self c.in_ok-stopped.stopped c.place_or_refuse-stopped.result.0 c.in_ok-stopped.ensures.noted.0 c.find_place.ensures.rest
+pub returns-clause-known : goal.returns-clause-known
+returns-clause-known g c =
+    if-known (IsNoteOfLast g.P.Plan.rules c.args.self c.place_or_refuse-stopped.result.0) c.in_ok-stopped.note c.in_ok-stopped.ensures.noted.0 c.in_ok-stopped.ensures.noted.3 (last-of-need g.P.Plan.rules c.args.self c.find_place.new.self c.in_ok-stopped.stopped c.place_or_refuse-stopped.result.0 c.in_ok-stopped.ensures.noted.0 c.find_place.ensures.rest
     (noted.known-found g.P.Plan.rules c.args.self c.find_place.new.self c.find_place.ensures.rest c.find_place.ensures.notes c.find_place.ensures.flags c.requires.stopped.order.flags)
     c.in_ok-stopped.ensures.noted.1 c.place_or_refuse-stopped.ensures.counts)
 

@@ -141,4 +141,5 @@ returns g c = record {
       c.args.self.notes c.note_placed.new.notes c.requires.stopped.order.flags c.note_placed.ensures.small_flags c.note_placed.ensures.large_flags;
   nursery = refl;
   full = refl;
+  workers = refl;
 }

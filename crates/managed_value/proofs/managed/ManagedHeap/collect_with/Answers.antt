@@ -30,6 +30,9 @@ go_on-requires-clause-lost g c = ap (λ (h : ManagedHeap g.row.P.Denot). h.world
 pub go_on-requires-clause-stopped : goal.go_on-requires-clause-stopped
 go_on-requires-clause-stopped g c = c.in_ok-stopped.ensures.stopped
 
+pub go_on-requires-clause-one : goal.go_on-requires-clause-one
+go_on-requires-clause-one g c = c.in_ok-stopped.ensures.collected.workers ∙ c.in-Some.ensures.ends.workers
+
 pub go_on-requires-clause-some : goal.go_on-requires-clause-some
 go_on-requires-clause-some g c =
     served.some-collected g.P.Plan.rules c.args.self.now c.in-Some.stopped c.in_ok-stopped.stopped c.in_ok-stopped.note c.requires.usable c.in-Some.ensures.ends

@@ -43,7 +43,7 @@ returns-clause-begins g c =
     let q = c.into_parts-heap.ensures in
     let w = c.begin_seated-world.result in
     let begin = c.begin_seated-world.ensures in
-    stops.begins-with g.P.Plan.rules c.args.stopped _ w c.requires.stopped c.requires.some refl
+    stops.begins-with g.P.Plan.rules c.args.stopped _ w c.requires.stopped c.requires.one c.requires.some refl
     (ap (λ (x : Parts). x.nursery) q) (ap (λ (x : Parts). x.full) q) begin.open
     (begin.mutators ∙ ap (λ (x : Parts). map mutator_state x.mutators.items) q)
     (begin.heap ∙ ap (λ (x : Parts). without_stop (heap_state x.heap)) q)

@@ -9,6 +9,9 @@ use Rattle.managed_heap.specs.Worlds.{empty_seat}
 use Rattle.managed_value.proofs.FirstEntries as first
 use Rattle.managed_value.proofs.managed.ManagedHeap.new.Goals as goal
 
+pub go_on-requires-clause-one : goal.go_on-requires-clause-one
+go_on-requires-clause-one g c = first.first-worker g.P.Plan.rules c.in_ok-stopped.stopped c.unwrap-layout.result.blocks c.args.mutators c.in_ok-stopped.ensures.stands
+
 pub go_on-requires-clause-some : goal.go_on-requires-clause-some
 go_on-requires-clause-some g c = subst (λ (n : ℕ). 1 ≤ n) (sym c.in_ok-stopped.ensures.mutators) c.requires.some
 

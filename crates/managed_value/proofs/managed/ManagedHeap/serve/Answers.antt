@@ -9,6 +9,7 @@ use Rattle.managed_heap.specs.Worlds.{empty_seat}
 use Rattle.managed_value.proofs.Places as places
 use Rattle.managed_value.proofs.Searched.{as-before-still}
 use Rattle.managed_value.proofs.Served as served
+use Rattle.managed_value.proofs.Stops.{one-worker}
 use Rattle.managed_value.proofs.managed.ManagedHeap.serve.Goals as goal
 
 pub overflow_add-m : goal.overflow_add-m
@@ -37,6 +38,11 @@ go_on-requires-clause-lost g c = ap (λ (h : ManagedHeap g.row.P.Denot). h.world
 
 pub go_on-requires-clause-stopped : goal.go_on-requires-clause-stopped
 go_on-requires-clause-stopped g c = c.in_ok-stopped.ensures.stopped
+
+pub go_on-requires-clause-one : goal.go_on-requires-clause-one
+go_on-requires-clause-one g c =
+    one-worker g.P.Plan.rules c.in-Some.stopped c.in_ok-stopped.stopped c.in-Some.ensures.ends.stopped c.in-Some.ensures.ends.workers
+    (λ t now stands. let k = c.in_ok-stopped.ensures.serves t now stands in (k.0, k.3))
 
 pub go_on-requires-clause-some : goal.go_on-requires-clause-some
 go_on-requires-clause-some g c =

@@ -27,7 +27,7 @@ returns-clause-ends g c =
     let q = sym c.from_parts.ensures in
     let close = c.close_with-heap.ensures in
     stops.ends-with g.P.Plan.rules c.args.self.now w c.from_parts.result (sym c.take.ensures.value ∙ c.in_ok-world.was) c.requires.usable
-    (ap (λ (x : Parts). x.nursery) c.from_parts.ensures) (ap (λ (x : Parts). x.full) c.from_parts.ensures)
+    (ap (λ (x : Parts). x.nursery) c.from_parts.ensures) (ap (λ (x : Parts). x.full) c.from_parts.ensures) (ap (λ (x : Parts). x.workers) c.from_parts.ensures)
     (subst (λ (x : Parts). (p : Epoch) (i : IdealHeap) (part : List Entry) → HasHistory w p i part
     → Stopped p.rules (numbers_of p.mutators) p.before i part (heap_state x.heap) (map mutator_state x.mutators.items)) q close.stopped)
     (subst (λ (x : Parts). map mutator_state x.mutators.items ≡ mutators_of_world w) q close.mutators)

@@ -16,8 +16,8 @@ use Rattle.managed_heap.specs.declared.stopped_heap.Parts.{Parts}
 use Rattle.heap_users.specs.Users.{mutator_state}
 use Rattle.managed_heap.proofs.Worlds.{may-use}
 use Rattle.sessions.specs.Plans.{Rules}
-use Rattle.mm_runtime.specs.declared.progress.End.{End}
-use Rattle.mm_runtime.specs.declared.progress.End.TheVariants as end
+use Rattle.mm_runtime.specs.declared.progress.PartEnd.{PartEnd}
+use Rattle.mm_runtime.specs.declared.progress.PartEnd.TheVariants as end
 use Rattle.mm_runtime.specs.declared.manager.Manager.{Manager}
 use Rattle.mm_runtime.proofs.ManagersStand as standing
 use Rattle.mm_runtime.proofs.ManagersStand.{RunsEpoch}
@@ -68,7 +68,7 @@ returns g c =
     let rules : Rules = g.P.Plan.rules in
     let old : Manager g.row.P.Denot = c.args.self in
     let new : Manager g.row.P.Denot = record { alloc = c.args.self.alloc; heap = c.from_parts-heap.result; progress = c.run_parts.new.progress } in
-    let ends : List End = c.in_ok-ends.ends.items in
+    let ends : List PartEnd = c.in_ok-ends.ends.items in
     let begin = c.in_ok-world.ensures in
     let close = c.close_with-heap.ensures in
     let last = c.run_parts.new.world in
@@ -91,6 +91,7 @@ returns g c =
       flags = subst (λ (q : Parts). (x : Rules) → x.young ≡ is_generational last → FlagsCover x (heap_state q.heap) q.notes.flags.items) parts_are close.flags;
       nursery = ap (λ (q : Parts). q.nursery) c.from_parts-heap.ensures ∙ ap (λ (q : Parts). q.nursery) c.into_parts-parts.ensures;
       full = ap (λ (q : Parts). q.full) c.from_parts-heap.ensures ∙ ap (λ (q : Parts). q.full) c.into_parts-parts.ensures;
+      workers = ap (λ (q : Parts). q.workers) c.from_parts-heap.ensures ∙ ap (λ (q : Parts). q.workers) c.into_parts-parts.ensures;
     } in record {
       order = parts.in-order rules old new ends ran ready.setting ready.now ready.closes.stands ready.order;
       part = λ t now closes. (parts.stop rules old new ends ran t now closes.stands, parts.runs-part rules old new ends ran t now closes.stands, parts.stands-after rules old new ends ran t now closes.stands);

@@ -1,6 +1,6 @@
 use Rattle.std.proofs.Common.{sym, subst}
 use Rattle.sessions.specs.Sessions.{Moment}
-use Rattle.mm_runtime.specs.declared.progress.End.{End}
+use Rattle.mm_runtime.specs.declared.progress.PartEnd.{PartEnd}
 use Rattle.mm_runtime.specs.Managers.{StandsAt}
 use Rattle.mm_runtime.specs.Stops.{ServesEnd}
 use Rattle.mm_runtime.proofs.NeedsServed.{adds-reply}
@@ -11,7 +11,7 @@ place_or_collect-requires-clause-next g c κs within = c.requires.next c.in-Need
 
 pub returns-clause-serves : goal.returns-clause-serves
 returns-clause-serves g c = λ t now stands.
-    subst (λ (e : End). (x : Moment) × ServesEnd t c.args.number e now x × StandsAt g.P.Plan.rules c.in_ok-manager.manager t x) (sym c.in-Need.is) (c.in_ok-manager.ensures.serves t now stands)
+    subst (λ (e : PartEnd). (x : Moment) × ServesEnd t c.args.number e now x × StandsAt g.P.Plan.rules c.in_ok-manager.manager t x) (sym c.in-Need.is) (c.in_ok-manager.ensures.serves t now stands)
 
 pub returns-clause-replies : goal.returns-clause-replies
 returns-clause-replies g c =
