@@ -21,6 +21,7 @@ mod ReadTexts
 mod RepliesRead
 mod Reported
 mod SessionBirths
+mod SessionBlocks
 mod SessionCollections
 mod SessionCounts
 mod SessionFills
@@ -29,7 +30,6 @@ mod SessionKinds
 mod SessionLarge
 mod SessionPlaces
 mod SessionRoom
-mod SessionSmall
 mod SessionTexts
 mod Sums
 mod Taken

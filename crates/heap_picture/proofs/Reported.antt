@@ -10,7 +10,7 @@ use Rattle.heap_picture.specs.declared.reader.Report.{Report}
 use Rattle.heap_picture.specs.declared.reader.Stage.{Stage}
 use Rattle.heap_picture.specs.declared.reader.Stage.TheVariants as stages
 use Rattle.heap_picture.specs.Forms.{LARGE, kinds_in, one_number, two_numbers}
-use Rattle.heap_picture.specs.Reading.{Begun, after_line, as_blocks, as_collections, as_held, as_kinds, as_live, as_told, blocks_in, goes_to, has_young, have_sizes, is_whole, may_be_held, may_collect, may_have_kinds, no_report, no_wants, strange_in}
+use Rattle.heap_picture.specs.Reading.{Begun, after_line, as_blocks, as_collections, as_held, as_kinds, as_live, as_known, blocks_in, goes_to, has_young, have_sizes, is_whole, may_be_held, may_collect, may_have_kinds, no_report, no_wants, strange_in}
 use Rattle.heap_picture.specs.Texts.{count_lines, kinds_line_text, two_text}
 use Rattle.heap_picture.proofs.Choices.{LeadsBy, chosen, first_of, then_read}
 use Rattle.heap_picture.proofs.KindsRead.{kinds_again, kinds_read}
@@ -107,7 +107,7 @@ record Paired (word other : List ℕ) (More : Pair → List (List ℕ) → Type 
   more : More pair rest
 
 told_by : (word : List ℕ) (told : ℕ) (next : Stage) (s end : Begun) (lines : List (List ℕ)) (More : List (List ℕ) → Type 0) (l : LeadsBy lines s end)
-    → as_told word told next s l.line ≡ Some l.next → ((rest : List (List ℕ)) → Leads rest (record s { stage = next }) end → More rest) → Told word told More lines
+    → as_known word told next s l.line ≡ Some l.next → ((rest : List (List ℕ)) → Leads rest (record s { stage = next }) end → More rest) → Told word told More lines
 told_by word told next s end lines More l e later =
     let n = then_read (λ n. if nat_eq n told then Some (record s { stage = next }) else None) (one_number word LARGE l.line) l.next e in
     let taken = chosen (nat_eq n.0 told) (record s { stage = next }) l.next n.2 in
@@ -121,7 +121,7 @@ told_by word told next s end lines More l e later =
     }
 
 told_step : (word : List ℕ) (told : ℕ) (next : Stage) (s end : Begun) (lines : List (List ℕ)) (More : List (List ℕ) → Type 0) → is_whole s ≡ false
-    → ((line : List ℕ) → after_line s line ≡ as_told word told next s line) → ((rest : List (List ℕ)) → Leads rest (record s { stage = next }) end → More rest)
+    → ((line : List ℕ) → after_line s line ≡ as_known word told next s line) → ((rest : List (List ℕ)) → Leads rest (record s { stage = next }) end → More rest)
     → Leads lines s end → Told word told More lines
 told_step word told next s end lines More unfinished after later leads =
     let l = first_of lines s end unfinished leads in
@@ -295,7 +295,7 @@ reported lines plan k c f bs end b =
 pub report_leads : (lines : List (List ℕ)) (plan : PlanName) (k c f : ℕ) (bs : List ℕ) (end : Begun) → Leads lines (planned plan k c f bs) end → Reported lines plan k c f bs end
 report_leads lines plan k c f bs end leads = reported lines plan k c f bs end (from_blocks plan k c f bs end lines leads)
 
-told_again : (word : List ℕ) (told : ℕ) (next : Stage) (s : Begun) → told ≤ LARGE → as_told word told next s (word ++ decimal told) ≡ Some (record s { stage = next })
+told_again : (word : List ℕ) (told : ℕ) (next : Stage) (s : Begun) → told ≤ LARGE → as_known word told next s (word ++ decimal told) ≡ Some (record s { stage = next })
 told_again word told next s fits =
     ap (option_and_then (λ n. if nat_eq n told then Some (record s { stage = next }) else None)) (one_again word LARGE told fits large)
     ∙ ap (λ b. if b then Some (record s { stage = next }) else None) (eq-eqb told told refl)

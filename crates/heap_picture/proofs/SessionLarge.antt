@@ -117,7 +117,7 @@ module _ (s : HeapState) (order : IsWellFormed s) where
       let less : k < block a + own a = at.below in
       subst (λ (j : ℕ). HasKind s j kinds.LargeTail) same (at.runs.run.run.tails (k - block a) (omega (arith, later)) (omega (arith, later, less, blocks)))
 
-  large-at : (a k : ℕ) → IsHeld s a → has a k ≡ true → large k ≡ true
+  pub large-at : (a k : ℕ) → IsHeld s a → has a k ≡ true → large k ≡ true
   large-at a k held is =
       let at = block-of a k held is in
       let from : block a ≤ k = at.from in
@@ -146,7 +146,7 @@ module _ (s : HeapState) (order : IsWellFormed s) where
       let blocks : (a - heap_of s.blocks) / 4096 ≡ (x - heap_of s.blocks) / 4096 = same in
       omega (arith, a-from, x-from, a-start, x-start, blocks)
 
-  one-owner : (a x k : ℕ) → IsHeld s a → IsHeld s x → has a k ≡ true → has x k ≡ true → a ≡ x
+  pub one-owner : (a x k : ℕ) → IsHeld s a → IsHeld s x → has a k ≡ true → has x k ≡ true → a ≡ x
   one-owner a x k here there is other =
       let one = block-of a k here is in
       let two = block-of x k there other in

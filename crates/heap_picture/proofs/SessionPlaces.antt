@@ -1,5 +1,4 @@
 -- The places of a sound moment's live objects, and its report.
-use Rattle.heap_picture.proofs.SessionSmall.{small-fit}
 use Rattle.std.proofs.Common.{◌≡◌, refl, sym, ◌∙◌, ap, subst, ℕ, suc, ◌+◌, ◌-◌, ◌*◌, ◌<◌, ◌≤◌, arith, inl, inr, true, List, [], ◌∷◌, length, map, Ok}
 use Rattle.std.specs.Prelude.{slice_index_or}
 use Rattle.std.specs.List.{All, AllByRecursion, AllPairs, range_with_len}
@@ -34,9 +33,11 @@ use Rattle.heap_picture.proofs.SessionRoom.{held-fit}
 use Rattle.heap_picture.proofs.SessionCounts.{all-counted, all-print, all-short, full-counted}
 use Rattle.heap_picture.proofs.SessionHeld.{Compared, Distinct, held-compared, weigh_list}
 use Rattle.heap_picture.proofs.SessionLarge.{large-fit}
+use Rattle.heap_picture.proofs.SessionBlocks.{live-rooms, small-fit}
 use Rattle.heap_picture.proofs.SessionKinds.{kinds-add-up}
 use Rattle.heap_picture.proofs.Mutators.{IsShort, news}
 use Rattle.heap_picture.proofs.SessionTexts.{session-read}
+use Rattle.heap_picture.proofs.Taken.{Apart}
 use Rattle.heap_picture.proofs.Sums.{all_printable, large_are, all_refusals_are, all_replies_are, births_are, words_are}
 
 sizes : (refs nums : ℕ) → refs ≤ 1024 → nums ≤ 60000 → (3 ≤ size_of refs nums) × (size_of refs nums ≤ 61027)
@@ -180,6 +181,9 @@ module _ (t : Setting) (last : Moment) (live : List ℕ) (sound : IsSound t last
         | inr later ↦ (let more = later.1 in omega (arith, more, births))
       ]
 
+  rooms : AllPairs AreDisjoint (map (place_of last.heap) live) → AllPairs Apart (places_of last.heap live)
+  rooms apart = live-rooms last.heap order live live-held differ apart
+
   compared : Compared (length (held_in last.heap)) (count_words_at last.heap (held_in last.heap)) (length live) (count_words_at last.heap live)
   compared = held-compared last.heap size-in live each-held (distinct-by live differ)
 
@@ -254,4 +258,4 @@ sound-read t plan last text same sound ended some few brief s inside apart fit =
     (all_printable (replies_in (length t.traces) last) (all-print (length t.traces) 1 last.done fit.replies))
     (All-from_recursion IsShort (replies_in (length t.traces) last) (all-short t.traces brief last.done ended.order.commands (length t.traces) 1 (omega arith) (omega arith)))
     (names-said t last s.live sound s.are inside ended)
-    (each-in t last s.live sound s.are inside) (all-born t last s.live sound s.are inside ended) apart
+    (each-in t last s.live sound s.are inside) (all-born t last s.live sound s.are inside ended) (rooms t last s.live sound s.are inside apart)

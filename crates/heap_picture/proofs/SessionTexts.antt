@@ -10,13 +10,12 @@ use Rattle.sessions.specs.Sessions.{Moment}
 use Rattle.trace_text.specs.Text.{IsPrintable, ended, mutator_text}
 use Rattle.command_line.specs.Orders.{plan_in}
 use Rattle.command_line.specs.declared.order.PlanName.{PlanName}
-use Rattle.driver.specs.Texts.{AreLive, IsSessionText, MapPlace, map_line, map_part, place_line, place_of, replies_part, report_part}
+use Rattle.driver.specs.Texts.{AreLive, IsSessionText, map_line, map_part, place_line, place_of, replies_part, report_part}
 use Rattle.heap_picture.specs.declared.forms.KindCounts.{KindCounts}
 use Rattle.heap_picture.specs.Bars.{map_place}
 use Rattle.heap_picture.specs.Reading.{text_read}
 use Rattle.heap_picture.specs.Sessions.{place_seen, places_of, replies_in, report_of}
 use Rattle.heap_picture.specs.Texts.{AllNamesInOrder, IsBorn, IsPlaceIn, Reports, births_in, kinds_line_text, plan_line, replies_from, report_text, two_text, whole}
-use Rattle.driver.specs.MapPlaces.{AreDisjoint}
 use Rattle.heap_picture.proofs.Taken.{Apart}
 use Rattle.heap_picture.proofs.Mapped.{Precedes}
 use Rattle.heap_picture.proofs.Mutators.{IsShort}
@@ -108,27 +107,10 @@ live-rise last live are i j d less low =
     subst (λ p. Precedes p (slice_index_or (map seen live) j d)) (sym first)
     (subst (λ q. Precedes (seen (slice_index_or live i 0)) q) (sym second) (are.rise i j less few))
 
--- the places of the lines are apart as those of the objects are
-live-apart : (last : Moment) (live : List ℕ) → AllPairs AreDisjoint (map (place_of last.heap) live) → AllPairs Apart (places_of last.heap live)
-live-apart last live apart i j d less low =
-    let seen = λ (a : ℕ). place_seen (place_of last.heap a) in
-    let few : j < length live = subst (λ (n : ℕ). j < n) (length-map live seen) low in
-    let small : i < length live = omega (arith, less, few) in
-    let first : slice_index_or (map seen live) i d ≡ seen (slice_index_or live i 0) = get_or-map seen live i 0 d small in
-    let second : slice_index_or (map seen live) j d ≡ seen (slice_index_or live j 0) = get_or-map seen live j 0 d few in
-    let p : MapPlace = place_of last.heap 0 in
-    let one : slice_index_or (map (place_of last.heap) live) i p ≡ place_of last.heap (slice_index_or live i 0) = get_or-map (place_of last.heap) live i 0 p small in
-    let two : slice_index_or (map (place_of last.heap) live) j p ≡ place_of last.heap (slice_index_or live j 0) = get_or-map (place_of last.heap) live j 0 p few in
-    let these : AreDisjoint (slice_index_or (map (place_of last.heap) live) i p) (slice_index_or (map (place_of last.heap) live) j p) =
-    apart i j p less (subst (λ (n : ℕ). j < n) (sym (length-map live (place_of last.heap))) few) in
-    let objects : AreDisjoint (place_of last.heap (slice_index_or live i 0)) (place_of last.heap (slice_index_or live j 0)) =
-    subst (λ q. AreDisjoint (place_of last.heap (slice_index_or live i 0)) q) two (subst (λ q. AreDisjoint q (slice_index_or (map (place_of last.heap) live) j p)) one these) in
-    subst (λ q. Apart q (slice_index_or (map seen live) j d)) (sym first) (subst (λ q. Apart (seen (slice_index_or live i 0)) q) (sym second) objects)
-
 pub session-read : (plan : PlanName) (n : ℕ) (last : Moment) (text : List ℕ) → (s : IsSessionText (plan_in plan) n true last text)
     → Reports (report_of plan n last s.live) (replies_in n last) (places_of last.heap s.live) → All (All IsPrintable) (replies_in n last)
     → All IsShort (replies_in n last) → AllNamesInOrder (births_in (replies_in n last)) 1 (replies_in n last) → All (IsPlaceIn n last.heap.blocks) (places_of last.heap s.live) → All (IsBorn (replies_in n last)) (places_of last.heap s.live)
-    → AllPairs AreDisjoint (map (place_of last.heap) s.live)
+    → AllPairs Apart (places_of last.heap s.live)
     → text_read text ≡ Ok (whole (report_of plan n last s.live) (births_in (replies_in n last)) (places_of last.heap s.live))
 session-read plan n last text s reports printable short named each born apart =
     let r = report_of plan n last s.live in
@@ -141,7 +123,7 @@ session-read plan n last text s reports printable short named each born apart =
       reports = reports;
       each = each;
       born = born;
-      apart = live-apart last s.live apart;
+      apart = apart;
       rise = live-rise last s.live s.are;
       text_is = s.printed ∙ sym (ap (λ t. t ++ report_text r ++ flat_map place_line (map map_place ps)) (replies-are n last)
           ∙ ap (λ t. replies_part n last ++ t ++ flat_map place_line (map map_place ps)) (report-is plan n last s.live)

@@ -9,8 +9,8 @@ use Rattle.std.proofs.lemmas.List.Kept.{AllPairs-cons}
 use Rattle.object_model.proofs.LawfulTests.{in-range}
 use Rattle.driver.specs.MapPlaces.{AreDisjoint, HasWord}
 use Rattle.heap_picture.specs.declared.forms.Place.{Place}
-use Rattle.heap_picture.specs.Bars.{map_place}
-use Rattle.heap_picture.specs.Marks.{MarksWords, end_word, first_word, has_word, is_taken}
+use Rattle.heap_picture.specs.Bars.{room_of}
+use Rattle.heap_picture.specs.Marks.{MarksWords, end_word, first_word, has_word, is_taken, room_words}
 use Rattle.heap_picture.specs.Reading.{is_free}
 
 -- none of the words of the place is taken
@@ -18,7 +18,7 @@ abbrev pub FreeOf : List Place → Place → Type 0
 FreeOf ps p = (i : ℕ) → first_word p ≤ i → i < end_word p → is_taken ps i ≡ false
 
 abbrev pub Apart : Place → Place → Type 0
-Apart p q = AreDisjoint (map_place p) (map_place q)
+Apart p q = AreDisjoint (room_of p) (room_of q)
 
 pub range_passes : (p : ℕ → Bool) (n a : ℕ) → ((i : ℕ) → a ≤ i → i < a + n → p i ≡ true) → list_all p (range_with_len a n) ≡ true
 range_passes p zero a each = refl
@@ -26,10 +26,10 @@ range_passes p (suc n) a each =
     and_from _ _ (each a (omega arith) (omega arith)) (range_passes p n (a + 1) (λ i from below. each i (omega (arith, from)) (omega (arith, below))))
 
 pub free_is : (ps : List Place) (p : Place) → is_free ps p ≡ true → FreeOf ps p
-free_is ps p e i from below = not-true (is_taken ps i) (in-range (λ i. not (is_taken ps i)) (first_word p) p.size e i from below)
+free_is ps p e i from below = not-true (is_taken ps i) (in-range (λ i. not (is_taken ps i)) (first_word p) (room_words p.size) e i from below)
 
 pub free_again : (ps : List Place) (p : Place) → FreeOf ps p → is_free ps p ≡ true
-free_again ps p free = range_passes (λ i. not (is_taken ps i)) p.size (first_word p) (λ i from below. ap not (free i from below))
+free_again ps p free = range_passes (λ i. not (is_taken ps i)) (room_words p.size) (first_word p) (λ i from below. ap not (free i from below))
 
 -- a word of the place is taken
 pub not_free : (ps : List Place) (p : Place) (i : ℕ) → first_word p ≤ i → i < end_word p → is_taken ps i ≡ true → is_free ps p ≡ false
@@ -47,7 +47,7 @@ free_by false ps marks p is free taken =
     let found = taken refl in
     sym (not_free ps p found.0 found.1 found.2 (sym (is found.0) ∙ found.3))
 
-has_again : (i : ℕ) (p : Place) → HasWord (map_place p) i → has_word i p ≡ true
+has_again : (i : ℕ) (p : Place) → HasWord (room_of p) i → has_word i p ≡ true
 has_again i p h = and_from _ _ (le-leb (first_word p) i h.from) (lt-ltb i (end_word p) h.below)
 
 taken_by_last : (i : ℕ) (ps : List Place) (p : Place) → has_word i p ≡ true → is_taken (ps ++ p ∷ []) i ≡ true

@@ -8,6 +8,7 @@ use Rattle.ideal_heap.specs.Names.{name}
 use Rattle.driver.specs.Texts.{MapPlace}
 use Rattle.heap_picture.specs.declared.bars.Rect.{Rect}
 use Rattle.heap_picture.specs.declared.forms.Place.{Place}
+use Rattle.heap_picture.specs.Marks.{room_words}
 
 -- the word whose square is at column x and row y, for x below 4096
 abbrev pub word_shown : ℕ → ℕ → ℕ
@@ -73,4 +74,13 @@ map_place p = record {
   block = p.block;
   word = p.word;
   size = p.size;
+}
+
+-- the place with all words that it has for itself
+abbrev pub room_of : Place → MapPlace
+room_of p = record {
+  name = name p.mutator p.birth;
+  block = p.block;
+  word = p.word;
+  size = room_words p.size;
 }

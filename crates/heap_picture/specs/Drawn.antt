@@ -36,7 +36,7 @@ rect_text r = if nat_eq r.width 0 || nat_eq r.height 0 then [] else full_rect_te
 abbrev pub are_none : List ℕ → Bool
 are_none counts = list_all (λ n. nat_eq n 0) counts
 
--- The kind of the blocks that have small and medium objects, if the report tells it: the one of
+-- The kind of the blocks that have small and medium objects, if the report says it: the one of
 -- these kinds that has blocks.
 abbrev pub block_colour : KindCounts → Colour
 block_colour k =

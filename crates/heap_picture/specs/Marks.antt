@@ -1,22 +1,27 @@
--- Which words of the heap places have.
+-- Which words of the heap places have for themselves.
 use Rattle.object_model.specs.declared.shape.TheConstants.{MAX_MEDIUM_WORDS}
 use Rattle.std.specs.Prelude.{◌≡◌, ℕ, ◌+◌, ◌*◌, Bool, false, ◌&&◌, List, nat_le, nat_lt, slice_index_or, if◌then◌else◌}
 use Rattle.std.specs.List.{list_any}
 use Rattle.heap_layout.specs.declared.layout.TheConstants.{BLOCK_WORDS}
+use Rattle.object_model.specs.Objects.{blocks_for}
 use Rattle.heap_picture.specs.declared.forms.Place.{Place}
 
--- the first word of a place and the end of its words, counted from word 0 of block 0 on
+-- how many words an object of this size has for itself: a large one has all those of its blocks
+abbrev pub room_words : ℕ → ℕ
+room_words size = if nat_le size MAX_MEDIUM_WORDS then size else BLOCK_WORDS * blocks_for size
+
+-- where the words begin and end that a place has for itself, counted from word 0 of block 0 on
 abbrev pub first_word : Place → ℕ
 first_word p = BLOCK_WORDS * p.block + p.word
 
 abbrev pub end_word : Place → ℕ
-end_word p = first_word p + p.size
+end_word p = first_word p + room_words p.size
 
--- word i belongs to the place
+-- the place has word i for itself
 abbrev pub has_word : ℕ → Place → Bool
 has_word i p = nat_le (first_word p) i && nat_lt i (end_word p)
 
--- word i belongs to one of the places
+-- one of the places has word i for itself
 abbrev pub is_taken : List Place → ℕ → Bool
 is_taken places i = list_any (has_word i) places
 
@@ -36,6 +41,6 @@ is_used places k = list_any (has_block k) places
 abbrev pub MarksBlocks : List Place → List Bool → Type 0
 MarksBlocks places marks = (k : ℕ) → slice_index_or marks k false ≡ is_used places k
 
--- exactly the words of the places are marked
+-- exactly the words are marked that the places have for themselves
 abbrev pub MarksWords : List Place → List Bool → Type 0
 MarksWords places marks = (i : ℕ) → slice_index_or marks i false ≡ is_taken places i

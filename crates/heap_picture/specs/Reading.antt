@@ -24,7 +24,7 @@ use Rattle.heap_picture.specs.declared.reader.TextFault.{TextFault}
 use Rattle.heap_picture.specs.declared.reader.TextFault.TheVariants as fault
 use Rattle.heap_picture.specs.declared.reader.TheConstants.{MAX_OBJECT_WORDS, NUMBERS}
 use Rattle.heap_picture.specs.Forms.{LARGE, Numbered, kinds_in, name_in, one_number, place_in, ref_in, reply_in, two_numbers}
-use Rattle.heap_picture.specs.Marks.{first_word, is_taken, is_used, shared_blocks}
+use Rattle.heap_picture.specs.Marks.{first_word, is_taken, is_used, room_words, shared_blocks}
 
 -- a number and the text after it, as the code has them
 abbrev pub numbered : ℕ × Bor (List ℕ) → Numbered
@@ -225,10 +225,10 @@ as_blocks s n = if nat_le MIN_BLOCKS n && nat_le n MAX_BLOCKS
 abbrev pub at_blocks : Begun → List ℕ → Option Begun
 at_blocks s line = option_and_then (as_blocks s) (one_number (codes "blocks ") LARGE line)
 
--- a number that the lines before tell, after this word
-abbrev pub as_told : List ℕ → ℕ → Stage → Begun → List ℕ → Option Begun
-as_told word told next s line = option_and_then
-    (λ n. if nat_eq n told then Some (record s { stage = next }) else None)
+-- a number that follows from the lines before, after this word
+abbrev pub as_known : List ℕ → ℕ → Stage → Begun → List ℕ → Option Begun
+as_known word known next s line = option_and_then
+    (λ n. if nat_eq n known then Some (record s { stage = next }) else None)
     (one_number word LARGE line)
 
 -- the plan has young objects
@@ -346,7 +346,7 @@ is_next places p = follows (slice_get places (length places - 1)) p
 -- no word of the place belongs to another one
 abbrev pub is_free : List Place → Place → Bool
 is_free places p =
-    list_all (λ i. not (is_taken places i)) (range_with_len (first_word p) p.size)
+    list_all (λ i. not (is_taken places i)) (range_with_len (first_word p) (room_words p.size))
 
 -- so many objects, with so many words, may follow the place
 abbrev pub leaves_room : ℕ → ℕ → Place → Bool
@@ -386,11 +386,11 @@ abbrev pub at_stage : Stage → Begun → List ℕ → Option Begun
 at_stage stages.Replies s line = at_replies s line
 at_stage stages.Blocks s line = at_blocks s line
 at_stage stages.Mutators s line =
-    as_told (codes "mutators ") s.report.mutators stages.Commands s line
+    as_known (codes "mutators ") s.report.mutators stages.Commands s line
 at_stage stages.Commands s line =
-    as_told (codes "commands ") s.report.commands stages.Full s line
+    as_known (codes "commands ") s.report.commands stages.Full s line
 at_stage stages.Full s line =
-    as_told (codes "full ") s.report.full stages.Collections s line
+    as_known (codes "full ") s.report.full stages.Collections s line
 at_stage stages.Collections s line = at_collections s line
 at_stage stages.Live s line = at_live s line
 at_stage stages.Held s line = at_held s line

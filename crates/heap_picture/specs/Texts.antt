@@ -19,7 +19,7 @@ use Rattle.command_line.specs.Orders.{plan_in}
 use Rattle.command_line.specs.declared.order.PlanName.{PlanName}
 use Rattle.driver.specs.MapPlaces.{AreDisjoint, LiesInBlocks}
 use Rattle.driver.specs.Texts.{place_line}
-use Rattle.heap_picture.specs.Bars.{map_place}
+use Rattle.heap_picture.specs.Bars.{map_place, room_of}
 use Rattle.heap_picture.specs.Forms.{LARGE, SMALL}
 use Rattle.heap_picture.specs.declared.forms.KindCounts.{KindCounts}
 use Rattle.heap_picture.specs.declared.forms.Place.{Place}
@@ -193,7 +193,8 @@ abbrev pub IsBorn : List (List Reply) → Place → Type 0
 IsBorn replies p = p.birth ≤ slice_index_or (births_in replies) p.mutator 0
 
 -- The text of a run with a map that has this report and these places: replies, report and map, as
--- they are printed. The map has its objects in rising order of names, and no two overlap.
+-- they are printed. The map has its objects in rising order of names. No two overlap, and the
+-- blocks of a large one have no other.
 pub record IsRunText (r : Report) (places : List Place) (text : List ℕ) : Type 0 where
   pub replies : List (List Reply)
   pub printable : All (All IsPrintable) replies
@@ -203,7 +204,7 @@ pub record IsRunText (r : Report) (places : List Place) (text : List ℕ) : Type
   pub reports : Reports r replies places
   pub each : All (IsPlaceIn r.mutators r.blocks) places
   pub born : All (IsBorn replies) places
-  pub apart : AllPairs (λ p q. AreDisjoint (map_place p) (map_place q)) places
+  pub apart : AllPairs (λ p q. AreDisjoint (room_of p) (room_of q)) places
   pub rise : AllPairs (λ p q. IsBefore (map_place p).name (map_place q).name) places
   pub text_is : text ≡ replies_from 1 replies ++ report_text r
       ++ flat_map place_line (map map_place places)

@@ -1,7 +1,7 @@
-//! The places of a map, and the words of the heap that they take.
+//! The places of a map, and the words of the heap that they have for themselves.
 
-ghost use Rattle.std.specs.Prelude.{◌≡◌, ◌+◌, ◌≤◌, ◌<◌, ℕ, ◌&&◌, ◌||◌, true, false, length, nat_le, nat_lt, slice_index_or, OnOk, OnErr};
-ghost use Rattle.heap_picture.specs.Marks.{MarksBlocks, MarksWords, first_word as begins, shared_blocks as has_shared};
+ghost use Rattle.std.specs.Prelude.{◌≡◌, ◌+◌, ◌^◌, ◌≤◌, ◌<◌, ℕ, ◌&&◌, ◌||◌, true, false, length, nat_le, nat_lt, slice_index_or, OnOk, OnErr};
+ghost use Rattle.heap_picture.specs.Marks.{MarksBlocks, MarksWords, first_word as begins, room_words as has_room, shared_blocks as has_shared};
 
 use crate::forms::Place;
 use heap_layout::BLOCK_WORDS;
@@ -9,7 +9,7 @@ use object_model::MAX_MEDIUM_WORDS;
 use std::alloc::{AllocError, Global};
 
 /// The places of a map, in the order of its lines, and for each word of the heap whether one of
-/// them takes it, and for each block whether it has a small or medium object.
+/// them has it for itself, and for each block whether it has a small or medium object.
 #[derive(Drop)]
 pub struct Places {
     pub(crate) items: Vec<Place>,
@@ -24,6 +24,19 @@ fn first_word(place: &Place) -> usize
     ensures { result ≡ begins place.now }
 {
     (u64::from(place.block) * u64::from(BLOCK_WORDS) + u64::from(place.word)) as usize
+}
+
+// How many words an object of this size has for itself: a large one has all those of its blocks.
+fn room_words(size: u32) -> usize
+    ensures room { result ≡ has_room size }
+    ensures few { result < 2 ^ 33 }
+{
+    if size <= MAX_MEDIUM_WORDS {
+        size as usize
+    } else {
+        let blocks = (u64::from(size) + 4095) / u64::from(BLOCK_WORDS);
+        (u64::from(BLOCK_WORDS) * blocks) as usize
+    }
 }
 
 // How many blocks a small or medium object of this size has, which it shares with others.
@@ -87,12 +100,13 @@ impl Places {
         }
     }
 
-    /// Whether the place has no word of another one.
+    /// Whether no other has a word that the place has for itself.
     pub(crate) fn is_free(&self, place: &Place) -> bool
         ensures { result ≡ leaves_free self.now.items.items place.now }
     {
         let from = first_word(place);
-        are_free(&self.taken, from, from + place.size as usize)
+        let room = room_words(place.size);
+        are_free(&self.taken, from, from + room)
     }
 
     /// How many more blocks of small and medium objects there are with the place.
@@ -116,7 +130,7 @@ impl Places {
         ensures { OnOk result (self.new.items.items ≡ self.old.items.items ++ place ∷ []) }
     {
         let from = first_word(&place);
-        let end = from + place.size as usize;
+        let end = from + room_words(place.size);
         let block = place.block as usize;
         let after = block + shared_blocks(place.size);
         reach(&mut self.taken, end)?;

@@ -1,7 +1,7 @@
 //! The reader of a run's text.
 
 ghost use Rattle.std.specs.Prelude.{◌≡◌, ◌≤◌, ◌<◌, ℕ, Some, true, false, length, slice_index_or, IfOk};
-ghost use Rattle.heap_picture.specs.Reading.{ReadsText, Takes, after_line, are_met as have_wanted, as_mutator, as_plan, as_reply, as_told, at_blocks, at_collections, at_held, at_kinds, at_live, at_map, at_replies, begun, births_of as known_births, blocks_in, has_young as plan_has_young, have_sizes as may_have_sizes, is_after as comes_after, is_birth as names_next, is_known as names_known, is_name as names_object, is_next as may_follow, is_whole as are_all, leaves_room as leaves_enough, lies_in as lies_in_heap, may_be_born as may_name, may_be_held as may_hold, may_be_known as may_refer, may_be_next, may_collect as may_make, may_have_kinds as may_have, nothing, own_blocks as has_alone, plan_in_line, strange_in, text_read, wanted_with};
+ghost use Rattle.heap_picture.specs.Reading.{ReadsText, Takes, after_line, are_met as have_wanted, as_known, as_mutator, as_plan, as_reply, at_blocks, at_collections, at_held, at_kinds, at_live, at_map, at_replies, begun, births_of as known_births, blocks_in, has_young as plan_has_young, have_sizes as may_have_sizes, is_after as comes_after, is_birth as names_next, is_known as names_known, is_name as names_object, is_next as may_follow, is_whole as are_all, leaves_room as leaves_enough, lies_in as lies_in_heap, may_be_born as may_name, may_be_held as may_hold, may_be_known as may_refer, may_be_next, may_collect as may_make, may_have_kinds as may_have, nothing, own_blocks as has_alone, plan_in_line, strange_in, text_read, wanted_with};
 
 use crate::forms::{
     KindCounts, Pair, Place, kinds_in, name_in, one_number, place_in, ref_in, reply_in, two_numbers,
@@ -477,15 +477,15 @@ impl Reader {
         false
     }
 
-    // Takes a number that the lines before tell.
-    fn take_told(&mut self, told: u64, next: Stage, word: &[u8], line: &[u8]) -> bool
-        ensures { Takes result (as_told word.now told next (begun self.old) line.now)
+    // Takes a number that follows from the lines before.
+    fn take_known(&mut self, known: u64, next: Stage, word: &[u8], line: &[u8]) -> bool
+        ensures { Takes result (as_known word.now known next (begun self.old) line.now)
             (begun self.new) }
     {
         let Some(number) = one_number(word, line) else {
             return false;
         };
-        if number == told {
+        if number == known {
             self.stage = next;
             return true;
         }
@@ -604,12 +604,12 @@ impl Reader {
             Stage::Replies => self.take_early(line),
             Stage::Blocks => Ok(self.take_blocks(line)),
             Stage::Mutators => {
-                Ok(self.take_told(report.mutators, Stage::Commands, b"mutators ", line))
+                Ok(self.take_known(report.mutators, Stage::Commands, b"mutators ", line))
             }
             Stage::Commands => {
-                Ok(self.take_told(report.commands, Stage::Full, b"commands ", line))
+                Ok(self.take_known(report.commands, Stage::Full, b"commands ", line))
             }
-            Stage::Full => Ok(self.take_told(report.full, Stage::Collections, b"full ", line)),
+            Stage::Full => Ok(self.take_known(report.full, Stage::Collections, b"full ", line)),
             Stage::Collections => Ok(self.take_collections(line)),
             Stage::Live => Ok(self.take_live(line)),
             Stage::Held => Ok(self.take_held(line)),

@@ -214,7 +214,7 @@ const FAULTS: [(usize, &str, u32); 63] = [
     (13, "map 1.3 block 0 word 8 size 5", 13),
     (13, "map 1.1 block 0 word 8 size 2", 13),
     (13, "map 1.1 block 1 word 0 size 4103", 13),
-    (13, "map 1.1 block 2 word 3 size 5", 14),
+    (13, "map 1.1 block 2 word 4 size 5", 14),
     (14, "map 1.1 block 1 word 0 size 4100", 14),
     (14, "map 1.2 block 1 word 1 size 4100", 14),
     (14, "map 1.2 block 5 word 0 size 4100", 14),
