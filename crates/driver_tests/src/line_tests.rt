@@ -1,5 +1,5 @@
-//! Tests of command lines in whole runs. A run does not show whether a refused line breaks the
-//! usage or asks for a feature that is not implemented. The tests of `command_line` do.
+//! Tests of command lines in whole runs.
+
 use crate::test_runs::{FIRST, report, report_of, run_line, run_words, trace_in};
 use std::test::Fail;
 
@@ -21,15 +21,12 @@ const SUPPORTED: &[&str] = &[
     "--heap=4 --plan=stickyimmix a",
     "--plan nogc --heap 4 --map a",
     "--map --plan immix --heap=4 a",
+    "--plan nogc --heap 4 --workers 2 a",
+    "--plan immix --heap 4 --workers 16 a",
+    "--workers=2 --plan semispace --heap 4 a",
 ];
 
 const REFUSED: &[&str] = &[
-    // These match the usage, but ask for a feature that is not implemented yet.
-    "--plan nogc --heap 4 --workers 2 a",
-    "--plan nogc --heap 4 --workers 16 a",
-    "--plan semispace --heap 4 --workers 2 a",
-    "--plan nogc --make 1000000 --workers 3 --heap 4",
-    "--plan nogc --heap 4 --workers 2 a b c d e f g h i j k l m n o p",
     // Words out of place.
     "",
     "a",

@@ -1,7 +1,10 @@
 //! Summaries of made traces.
 
 use crate::test_runs::{run_whole, words_in};
+use std::alloc::{AllocError, Global};
+use std::process::Abort;
 use std::test::Fail;
+use std::thread::Threads;
 use work_packets::OpenGate;
 
 const NOGC: &[&str] = &["nogc"];
@@ -52,23 +55,38 @@ const SUMMARIES: [(&[&str], u32, u32, &str); 7] = [
     ),
 ];
 
+// The run of this line ends well, and its summary has these lines.
+fn check_summary<R: Threads + Sync + Abort>(
+    rt: &R,
+    alloc: Global,
+    line: &str,
+    lines: &str,
+) -> Result<(), AllocError> {
+    let words = words_in(alloc, line)?;
+    let ran = run_whole(rt, alloc, &words, Vec::new(alloc), &OpenGate)?;
+    let text = str::from_utf8(&ran).unwrap_or("");
+    let (number, text) = text.split_once('|').unwrap_or(("", ""));
+    assert_eq!(rt; number, "0", "{line}");
+    assert_eq!(rt; text.split('\n').count(), 13, "{line}");
+    for want in lines.split(';') {
+        assert!(rt;
+            text.split('\n').any(|found| found == want),
+            "{line}: {want}"
+        );
+    }
+    Ok(())
+}
+
 #[test]
 fn summaries(rt: HostRuntime) -> Result<(), Fail> {
     let alloc = rt.alloc();
     for (plans, heap, commands, lines) in SUMMARIES {
         for plan in plans {
-            let line = format!(in alloc; "--plan {plan} --heap {heap} --make {commands}")?;
-            let words = words_in(alloc, &line)?;
-            let ran = run_whole(&rt, alloc, &words, Vec::new(alloc), &OpenGate)?;
-            let text = str::from_utf8(&ran).unwrap_or("");
-            let (number, text) = text.split_once('|').unwrap_or(("", ""));
-            assert_eq!(rt; number, "0", "{line}");
-            assert_eq!(rt; text.split('\n').count(), 13, "{line}");
-            for want in lines.split(';') {
-                assert!(rt;
-                    text.split('\n').any(|found| found == want),
-                    "{line}: {want}"
-                );
+            for workers in [1u32, 2, 4, 16] {
+                let line = format!(in alloc;
+                    "--plan {plan} --heap {heap} --workers {workers} --make {commands}"
+                )?;
+                check_summary(&rt, alloc, &line, lines)?;
             }
         }
     }

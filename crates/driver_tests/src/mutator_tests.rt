@@ -1,6 +1,6 @@
 //! Runs of several traces: fault lines, additions, and the points of a gate.
 
-use crate::test_runs::{check_report, report, report_of, run_traces};
+use crate::test_runs::{check_report, report, report_of, run_options, run_traces};
 use std::alloc::{AllocError, Global};
 use std::process::Abort;
 use std::sync::atomic::{AtomicU64, Ordering};
@@ -40,14 +40,19 @@ fn numbers_in(alloc: Global, text: &[u8]) -> Result<Vec<u64>, AllocError> {
     Ok(numbers)
 }
 
-// Four mutators add 1 to one number a thousand times each, through stops that `gc` raises: an
-// addition replies the number before it. At the end one reads the sum.
+// Four mutators that add 1 to one number a thousand times each.
+fn four_adding(alloc: Global) -> Result<String, AllocError> {
+    let first = "new r0 0 1;share g0 r0;meet;load r1 g0;1000*add r1 0 1;meet;read r1 0";
+    let other = "meet;load r1 g0;500*add r1 0 1;gc;500*add r1 0 1;meet";
+    format!(in alloc; "{first}|{other}|{other}|{other}")
+}
+
+// Additions go on through stops that `gc` raises: each replies the number before it. At the end one
+// mutator reads the sum.
 #[test]
 fn additions(rt: HostRuntime) -> Result<(), Fail> {
     let alloc = rt.alloc();
-    let first = "new r0 0 1;share g0 r0;meet;load r1 g0;1000*add r1 0 1;meet;read r1 0";
-    let other = "meet;load r1 g0;500*add r1 0 1;gc;500*add r1 0 1;meet";
-    let traces = format!(in alloc; "{first}|{other}|{other}|{other}")?;
+    let traces = four_adding(alloc)?;
     let want = Vec::from_iter(alloc, 0..4001u64)?;
     for plan in [
         "nogc",
@@ -57,10 +62,56 @@ fn additions(rt: HostRuntime) -> Result<(), Fail> {
         "immix",
         "stickyimmix",
     ] {
-        let ran = run_traces(&rt, alloc, plan, 8, &traces, &OpenGate)?;
-        let numbers = numbers_in(alloc, &ran)?;
-        assert!(rt; numbers.as_slice() == want.as_slice(), "{plan}");
+        for workers in [1u32, 4] {
+            let options = format!(in alloc; "--plan {plan} --heap 8 --workers {workers}")?;
+            let ran = run_options(&rt, alloc, &options, &traces, &OpenGate)?;
+            let numbers = numbers_in(alloc, &ran)?;
+            assert!(rt; numbers.as_slice() == want.as_slice(), "{options}");
+        }
     }
+    Ok(())
+}
+
+// A gate that counts births, packets and items of all.
+#[derive(Drop)]
+struct WorkGate {
+    publish: AtomicU64,
+    packet: AtomicU64,
+    claimed: AtomicU64,
+}
+
+impl Gate for WorkGate {
+    fn pass(&self, _who: u32, point: Point) {
+        match point {
+            Point::Publish => {
+                self.publish.fetch_add(1, Ordering::SeqCst);
+            }
+            Point::Packet => {
+                self.packet.fetch_add(1, Ordering::SeqCst);
+            }
+            Point::Claimed => {
+                self.claimed.fetch_add(1, Ordering::SeqCst);
+            }
+            _ => {}
+        }
+    }
+}
+
+// The mutators of a run allocate on its heap, and its workers run packets.
+#[test]
+fn runs_allocate_and_collect(rt: HostRuntime) -> Result<(), Fail> {
+    let alloc = rt.alloc();
+    let gate = WorkGate {
+        publish: AtomicU64::new(0),
+        packet: AtomicU64::new(0),
+        claimed: AtomicU64::new(0),
+    };
+    let options = "--plan semispace --heap 8 --workers 4";
+    let ran = run_options(&rt, alloc, options, &four_adding(alloc)?, &gate)?;
+    assert_eq!(rt; numbers_in(alloc, &ran)?.len(), 4001);
+    assert!(rt; gate.publish.load(Ordering::SeqCst) >= 1);
+    assert!(rt; gate.packet.load(Ordering::SeqCst) >= 1);
+    assert!(rt; gate.claimed.load(Ordering::SeqCst) >= 1);
     Ok(())
 }
 

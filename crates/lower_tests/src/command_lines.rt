@@ -1,6 +1,6 @@
 //! Tests of the command line.
 
-use command_line::{Target, read_form, read_words};
+use command_line::{Target, read_words};
 use std::alloc::{AllocError, Global};
 use std::test::Fail;
 
@@ -13,12 +13,13 @@ fn words_in(alloc: Global, line: &str) -> Result<Vec<String>, AllocError> {
     Ok(words)
 }
 
-// Whether the line has the form of a command line, and whether what it asks for is implemented.
-fn read(alloc: Global, line: &str) -> Result<(bool, bool), AllocError> {
+// The number of workers that the line asks for, and 0 if it is not in the form of a command line.
+fn workers_for(alloc: Global, line: &str) -> Result<u32, AllocError> {
     let words = words_in(alloc, line)?;
-    let form = read_form(alloc, words.as_slice())?;
-    let order = read_words(alloc, words.as_slice())?;
-    Ok((form.is_some(), order.is_some()))
+    match read_words(alloc, words.as_slice())? {
+        Some(order) => Ok(order.workers),
+        None => Ok(0),
+    }
 }
 
 // The blocks of the heap, if the line asks for a run of the file `a` alone.
@@ -54,9 +55,8 @@ fn reads_command_lines(rt: HostRuntime) -> Result<(), Fail> {
     Ok(())
 }
 
-// Several files; features that are not implemented, with all words in their form; what does not
-// match the usage.
-const IMPLEMENTED: &str = "--plan nogc --heap 4 a b\n\
+// With one worker, and with two; and what does not match the usage.
+const ONE_WORKER: &str = "--plan nogc --heap 4 a b\n\
     --plan nogc --heap 4 a a\n\
     --plan semispace --heap 4 a b\n\
     --plan marksweep --heap 4 a b\n\
@@ -71,14 +71,13 @@ const IMPLEMENTED: &str = "--plan nogc --heap 4 a b\n\
     --make=1 --plan nogc --heap 4\n\
     --plan nogc --heap 4 a b c d e f g h i j k l m n o p";
 
-const NOT_IMPLEMENTED: &str = "--plan stickyimmix --heap 4 --workers 2 a\n\
-    --plan gencopy --heap 4 --workers 2 a\n\
-    --plan nogc --heap 4 --workers 2 a\n\
-    --plan nogc --heap 4 --workers 16 a\n\
-    --plan semispace --heap 4 --workers 2 a\n\
+const TWO_WORKERS: &str = "--plan stickyimmix --heap 4 --workers 2 a\n\
+    --plan gencopy --heap 4 --workers=2 a\n\
+    --workers 2 --plan nogc --heap 4 a\n\
+    --plan semispace --workers=2 --heap 4 --map a\n\
     --plan marksweep --heap 4 --workers 2 a\n\
     --plan immix --heap 4 --workers 2 a\n\
-    --plan nogc --make 1000000 --workers 3 --heap 4\n\
+    --plan nogc --make 1000000 --workers 2 --heap 4\n\
     --plan nogc --heap 4 --workers 2 a b c d e f g h i j k l m n o p";
 
 const FAULTY: &str = "\n\
@@ -92,6 +91,9 @@ const FAULTY: &str = "\n\
     --plan nogc --heap 4 --map= a\n\
     --plan nogc --heap 4 --workers 0 a\n\
     --plan nogc --heap 4 --workers 17 a\n\
+    --plan nogc --heap 4 --workers 01 a\n\
+    --plan nogc --heap 4 --workers=2 --workers 2 a\n\
+    --workers 1 --plan nogc --heap 4 --workers 2 a\n\
     --plan nogc --heap 4 --make 0\n\
     --plan nogc --heap 4 --make 1000001\n\
     --plan nogc --heap 4 --make=05\n\
@@ -104,15 +106,15 @@ const FAULTY: &str = "\n\
     --plan nogc --heap 1025 a";
 
 #[test]
-fn usage_and_what_is_implemented(rt: HostRuntime) -> Result<(), Fail> {
-    for (lines, want) in [
-        (IMPLEMENTED, (true, true)),
-        (NOT_IMPLEMENTED, (true, false)),
-        (FAULTY, (false, false)),
-    ] {
+fn usage_and_workers(rt: HostRuntime) -> Result<(), Fail> {
+    for (lines, want) in [(ONE_WORKER, 1u32), (TWO_WORKERS, 2), (FAULTY, 0)] {
         for line in lines.split('\n') {
-            assert_eq!(rt; read(rt.alloc(), line)?, want, "{line}");
+            assert_eq!(rt; workers_for(rt.alloc(), line)?, want, "{line}");
         }
     }
+    assert_eq!(rt;
+        workers_for(rt.alloc(), "--plan nogc --heap 4 --workers 16 a")?,
+        16
+    );
     Ok(())
 }

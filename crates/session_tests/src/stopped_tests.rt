@@ -40,7 +40,7 @@ fn collect<P: Plan, R: Abort + Threads + Sync>(
 fn check_kinds<P: Plan, R: Abort + Threads + Sync>(rt: &R, alloc: Global) -> Result<(), Fail>
     requires { IsTrue P.rules.young }
 {
-    let mut stopped = StoppedHeap::<P>::new(alloc, Layout::new(4)?, 1)?;
+    let mut stopped = StoppedHeap::<P>::new(alloc, Layout::new(4)?, 1, 1)?;
     for kind in [
         Collect::Full,
         Collect::Nursery,

@@ -9,24 +9,32 @@ use heap_graph::Place;
 use ideal_heap::Command;
 use object_model::Collect;
 use plan_api::Plan;
-use plans::{MarkSweep, NoGc, SemiSpace};
+use plans::{Immix, MarkSweep, NoGc, SemiSpace};
 use std::alloc::{AllocError, Global};
 use std::process::Abort;
 use std::test::Fail;
 use std::thread::Threads;
 
-// A full collection from the first `kept` registers.
+// A full collection by so many workers from the first `kept` registers.
 fn collect_once<P: Plan, R: Abort + Threads + Sync>(
     rt: &R,
     alloc: Global,
     built: Built,
     kept: usize,
+    workers: u32,
 ) -> Result<(Pass, Built), Fail> {
     let Built { heap, registers } = built;
     let mut roots = registers;
     roots.truncate(kept);
     let old = View::of(rt, alloc, &heap, roots.as_slice().to_vec(alloc)?)?;
-    let (made, claim, claimed) = collect_counted::<P, R>(rt, alloc, heap, roots, Collect::Full)?;
+    let (made, claim, claimed) = collect_counted::<P, R>(
+        rt,
+        alloc,
+        heap,
+        roots,
+        Collect::Full,
+        workers,
+    )?;
     let built = with_roots(rt, made.heap, made.roots);
     let roots = built.registers.as_slice().to_vec(alloc)?;
     let pass = Pass {
@@ -108,13 +116,16 @@ enum Way {
     Counts,
     Sweeps,
     Copies,
+    CopiesSome,
 }
 
-// A heap of this many blocks, and whether all objects that it keeps have room for copies.
+// A heap of this many blocks, whether all objects that it keeps have room for copies, and how many
+// workers collect it.
 #[derive(Clone, Copy)]
 struct Setting {
     blocks: u32,
     room: bool,
+    workers: u32,
 }
 
 // Collects a heap that was built under one plan under another, once for each number of registers
@@ -130,12 +141,13 @@ fn collect_each<B: Plan, P: Plan, R: Abort + Threads + Sync>(
     let mut built = build_under::<B>(rt, alloc, setting.blocks, commands, 16)?;
     let mut notes = Vec::new(alloc);
     for kept in passes {
-        let (pass, next) = collect_once::<P, R>(rt, alloc, built, *kept)?;
+        let (pass, next) = collect_once::<P, R>(rt, alloc, built, *kept, setting.workers)?;
         check_graph(rt, &pass);
         let right = match way {
             Way::Counts => is_counted(&pass),
             Way::Sweeps => is_swept(&pass),
             Way::Copies => is_copied(&pass, setting.room),
+            Way::CopiesSome => is_kept(&pass),
         };
         assert!(rt; right, "{:?}", pass.note);
         notes.push(pass.note)?;
@@ -144,7 +156,7 @@ fn collect_each<B: Plan, P: Plan, R: Abort + Threads + Sync>(
     Ok(notes)
 }
 
-// Collects a heap under each plan. Returns what SemiSpace noted.
+// Collects a heap under each plan without young objects. Returns what SemiSpace noted.
 fn check_plans<R: Abort + Threads + Sync>(
     rt: &R,
     alloc: Global,
@@ -154,6 +166,7 @@ fn check_plans<R: Abort + Threads + Sync>(
 ) -> Result<Vec<Note>, Fail> {
     collect_each::<NoGc, NoGc, R>(rt, alloc, setting, Way::Counts, commands, passes)?;
     collect_each::<MarkSweep, MarkSweep, R>(rt, alloc, setting, Way::Sweeps, commands, passes)?;
+    collect_each::<Immix, Immix, R>(rt, alloc, setting, Way::CopiesSome, commands, passes)?;
     collect_each::<NoGc, SemiSpace, R>(rt, alloc, setting, Way::Copies, commands, passes)
 }
 
@@ -163,6 +176,7 @@ fn random_graphs(rt: HostRuntime) -> Result<(), Fail> {
     let setting = Setting {
         blocks: 200,
         room: true,
+        workers: 1,
     };
     for seed in [1u64, 0x9e37_79b9_7f4a_7c15] {
         let commands = random_graph(rt.alloc(), seed, 10_000)?;
@@ -181,7 +195,7 @@ fn plain_and_fast_scans_agree(rt: HostRuntime) -> Result<(), Fail> {
     let run = full_run(&rt, alloc, &built.heap, 0, false)?;
     let plain = trace(&rt, alloc, built, run)?;
     let built = build(&rt, alloc, 40, &commands, 8)?;
-    let (fast, _) = collect_once::<MarkSweep, HostRuntime>(&rt, alloc, built, 8)?;
+    let (fast, _) = collect_once::<MarkSweep, HostRuntime>(&rt, alloc, built, 8, 1)?;
     let zone = 18 + 133 * 40;
     let words = plain.traced.row.words.to_vec(alloc)?;
     let same = words.iter().skip(zone).eq(fast.new.words.iter().skip(zone));
@@ -195,6 +209,7 @@ fn long_lists(rt: HostRuntime) -> Result<(), Fail> {
     let setting = Setting {
         blocks: 210,
         room: true,
+        workers: 1,
     };
     let commands = list(rt.alloc(), 100_000)?;
     let notes = check_plans(&rt, rt.alloc(), setting, &commands, &[3, 1, 0])?;
@@ -223,6 +238,7 @@ fn full_and_empty_heaps(rt: HostRuntime) -> Result<(), Fail> {
     let setting = Setting {
         blocks: 4,
         room: false,
+        workers: 1,
     };
     let commands = halves(rt.alloc())?;
     let table: [(&[Command], &[usize], &[(u32, u32, u32)]); 3] = [
@@ -234,6 +250,37 @@ fn full_and_empty_heaps(rt: HostRuntime) -> Result<(), Fail> {
         let notes = check_plans(&rt, rt.alloc(), setting, commands, passes)?;
         let counts = notes.iter().map(|n| (n.kept, n.moved, n.free_blocks));
         assert!(rt; counts.eq(want.iter().copied()), "{notes:?}");
+    }
+    Ok(())
+}
+
+// Several workers keep what one keeps: graphs, lists, and a heap in which no block is Free.
+#[test]
+fn collections_by_several_workers(rt: HostRuntime) -> Result<(), Fail> {
+    let alloc = rt.alloc();
+    let table = [
+        (random_graph(alloc, 3, 1_500)?, 64u32, true, [16usize, 8, 2]),
+        (list(alloc, 3_000)?, 64, true, [3, 1, 0]),
+        (halves(alloc)?, 4, false, [16, 8, 6]),
+    ];
+    for (commands, blocks, room, passes) in &table {
+        let mut one = Vec::new(alloc);
+        for workers in [1u32, 2, 4, 16] {
+            let setting = Setting {
+                blocks: *blocks,
+                room: *room,
+                workers,
+            };
+            let notes = check_plans(&rt, alloc, setting, commands, passes)?;
+            let mut kept = Vec::new(alloc);
+            for note in &notes {
+                kept.push((note.kept, note.kept_words))?;
+            }
+            if workers == 1 {
+                one.extend_from_slice(&kept)?;
+            }
+            assert!(rt; kept == one, "{workers}: {notes:?}");
+        }
     }
     Ok(())
 }

@@ -27,3 +27,5 @@ mod tests;
 mod tracing;
 #[cfg(test)]
 mod views;
+#[cfg(test)]
+mod workers_tests;

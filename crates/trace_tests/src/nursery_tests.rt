@@ -314,7 +314,7 @@ fn act<P: Plan, R: Abort + Threads + Sync>(
     } else {
         Collect::Full
     };
-    let (pass, aged) = collect_aged::<P, R>(rt, alloc, aged, kind)?;
+    let (pass, aged) = collect_aged::<P, R>(rt, alloc, aged, kind, 1)?;
     check_pass::<P>(rt, alloc, &pass)?;
     notes.push(pass.pass.note)?;
     Ok(aged)
@@ -376,13 +376,14 @@ fn of_first(alloc: Global, commands: &[Command]) -> Result<Vec<(u32, Command)>, 
     Ok(all)
 }
 
-// Collections of a heap after each of these lists of commands: a full one first and last, and
-// nursery ones between. Returns how many objects each kept, and how many logged ones it had.
+// Collections by so many workers of a heap after each of these lists of commands: a full one first
+// and last, and nursery ones between. Returns how many objects each kept, and how many logged ones it had.
 fn collect_between<P: Plan, R: Abort + Threads + Sync>(
     rt: &R,
     alloc: Global,
     blocks: u32,
     parts: &[Vec<Command>],
+    workers: u32,
 ) -> Result<Vec<(u32, u64)>, Fail>
     requires collects { P.rules.collects ≡ true }
     requires young { P.rules.young ≡ true }
@@ -398,7 +399,7 @@ fn collect_between<P: Plan, R: Abort + Threads + Sync>(
         } else {
             Collect::Nursery
         };
-        let (pass, next) = collect_aged::<P, R>(rt, alloc, aged, kind)?;
+        let (pass, next) = collect_aged::<P, R>(rt, alloc, aged, kind, workers)?;
         check_pass::<P>(rt, alloc, &pass)?;
         kept.push((pass.pass.note.kept, pass.logged))?;
         aged = next;
@@ -406,10 +407,10 @@ fn collect_between<P: Plan, R: Abort + Threads + Sync>(
     Ok(kept)
 }
 
-// The commands that build a graph of 10,000 objects, of which a third are old as the first of three
+// The commands that build a graph of `count` objects, of which a third are old as the first of three
 // nursery collections begins. Before each one, stores into random objects log some.
-fn random_parts(alloc: Global, seed: u64) -> Result<Vec<Vec<Command>>, AllocError> {
-    let commands = random_graph(alloc, seed, 10_000)?;
+fn random_parts(alloc: Global, seed: u64, count: u32) -> Result<Vec<Vec<Command>>, AllocError> {
+    let commands = random_graph(alloc, seed, count)?;
     let third = commands.len() / 3;
     let eighth = third / 8;
     let mut parts = Vec::new(alloc);
@@ -434,14 +435,33 @@ fn random_parts(alloc: Global, seed: u64) -> Result<Vec<Vec<Command>>, AllocErro
 fn random_nurseries(rt: HostRuntime) -> Result<(), Fail> {
     let alloc = rt.alloc();
     for seed in [3u64, 0x9e37_79b9_7f4a_7c15] {
-        let parts = random_parts(alloc, seed)?;
-        let copied = collect_between::<GenCopy, HostRuntime>(&rt, alloc, 200, &parts)?;
-        let in_place = collect_between::<StickyImmix, HostRuntime>(&rt, alloc, 200, &parts)?;
+        let parts = random_parts(alloc, seed, 10_000)?;
+        let copied = collect_between::<GenCopy, HostRuntime>(&rt, alloc, 200, &parts, 1)?;
+        let in_place = collect_between::<StickyImmix, HostRuntime>(&rt, alloc, 200, &parts, 1)?;
         assert!(rt; copied == in_place, "{copied:?} {in_place:?}");
         let mut nurseries = copied.iter().skip(1).take(3);
         assert!(rt;
             nurseries.all(|(kept, logged)| *kept > 100 && *logged > 10),
             "{copied:?}"
+        );
+    }
+    Ok(())
+}
+
+// Several workers leave what one leaves.
+#[test]
+fn nurseries_by_several_workers(rt: HostRuntime) -> Result<(), Fail> {
+    let alloc = rt.alloc();
+    let parts = random_parts(alloc, 5, 1_500)?;
+    let one = collect_between::<GenCopy, HostRuntime>(&rt, alloc, 64, &parts, 1)?;
+    for workers in [1u32, 2, 16] {
+        let copied = collect_between::<GenCopy, HostRuntime>(&rt, alloc, 64, &parts, workers)?;
+        let in_place = collect_between::<StickyImmix, HostRuntime>(
+            &rt, alloc, 64, &parts, workers,
+        )?;
+        assert!(rt;
+            copied == one && in_place == one,
+            "{workers}: {copied:?} {in_place:?}"
         );
     }
     Ok(())
@@ -465,8 +485,8 @@ fn long_young_list(rt: HostRuntime) -> Result<(), Fail> {
     }
     let parts = vec![in alloc; old, young, Vec::new(alloc)]?;
     for kept in [
-        collect_between::<GenCopy, HostRuntime>(&rt, alloc, 210, &parts)?,
-        collect_between::<StickyImmix, HostRuntime>(&rt, alloc, 210, &parts)?,
+        collect_between::<GenCopy, HostRuntime>(&rt, alloc, 210, &parts, 1)?,
+        collect_between::<StickyImmix, HostRuntime>(&rt, alloc, 210, &parts, 1)?,
     ] {
         assert!(rt; kept.as_slice() == [(1, 0), (100_000, 1), (100_001, 0)].as_slice());
     }

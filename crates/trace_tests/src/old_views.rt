@@ -123,12 +123,13 @@ fn check_offered(rt: &impl Abort, heap: &Heap, kind: Collect)
     assert!(rt; is_offered(heap, kind));
 }
 
-/// A collection from the registers of all mutators.
+/// A collection by so many workers from the registers of all mutators.
 pub(crate) fn collect_aged<P: Plan, R: Abort + Threads + Sync>(
     rt: &R,
     alloc: Global,
     aged: AgedHeap,
     kind: Collect,
+    workers: u32,
 ) -> Result<(AgedPass, AgedHeap), Fail>
     requires collects { P.rules.collects ≡ true }
     requires young { P.rules.young ≡ true }
@@ -143,7 +144,9 @@ pub(crate) fn collect_aged<P: Plan, R: Abort + Threads + Sync>(
     let old = view(rt, alloc, &heap, &registers, &olds)?;
     let roots = registers.len() as u64;
     check_offered(rt, &heap, kind);
-    let (made, claim, claimed) = collect_counted::<P, R>(rt, alloc, heap, registers, kind)?;
+    let (made, claim, claimed) = collect_counted::<P, R>(
+        rt, alloc, heap, registers, kind, workers,
+    )?;
     set_registers(&mut mutators, &made.roots);
     let pass = Pass {
         old,

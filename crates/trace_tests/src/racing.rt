@@ -1,4 +1,4 @@
-//! The trace of a whole collection by one or two workers on a shared row.
+//! The trace of a whole collection by one worker on a shared row, call by call.
 
 ghost use Rattle.std.specs.Prelude.{All};
 ghost use Rattle.object_model.specs.Heaps.{heap_state};
@@ -13,7 +13,6 @@ use crate::tracing::Outcome;
 use std::alloc::{AllocError, Global};
 use std::process::Abort;
 use std::test::Fail;
-use std::thread::{Threads, join};
 use trace_core::TraceRun;
 use trace_table::{Claim, GlobalRoot, Grey, TraceTable, WorkerSeat};
 
@@ -176,61 +175,10 @@ fn work_part(table: &TraceTable, alloc: Global, registers: &[u32], part: Part) -
     (seat, found)
 }
 
-// A worker claims all registers, and scans what it won.
-fn race_part(table: &TraceTable, alloc: Global, registers: &[u32], seat: WorkerSeat) -> Ended
-    requires table { IsTable table.now }
-    requires seat { IsSeat table.now seat }
-    requires done { IsDone (setup_at table.now) seat.seat.me.0 }
-    requires roots { AreRoots (setup_at table.now).before registers.now }
-    ensures seat { IsSeat table.now result.0 }
-    ensures done { IsDone (setup_at table.now) result.0.seat.me.0 }
-{
-    let mut seat = seat;
-    let globals = Vec::new(alloc);
-    let stack = Vec::new(alloc);
-    let found = work(table, alloc, &mut seat, registers, globals, stack);
-    (seat, found)
-}
-
-// Both workers on threads of their own.
-fn race_parts<R: Threads + Sync>(
-    rt: &R,
-    table: &TraceTable,
-    alloc: Global,
-    registers: &[u32],
-    first: WorkerSeat,
-    second: WorkerSeat,
-) -> (Ended, Ended)
-    requires table { IsTable table.now }
-    requires first { IsSeat table.now first × IsDone (setup_at table.now) first.seat.me.0 }
-    requires second { IsSeat table.now second × IsDone (setup_at table.now) second.seat.me.0 }
-    requires roots { AreRoots (setup_at table.now).before registers.now }
-    ensures first { IsSeat table.now result.0.0
-        × IsDone (setup_at table.now) result.0.0.seat.me.0 }
-    ensures second { IsSeat table.now result.1.0 }
-{
-    join(
-        rt,
-        move || -> Ended
-            requires { IsTable table.now × IsSeat table.now first
-                × IsDone (setup_at table.now) first.seat.me.0
-                × AreRoots (setup_at table.now).before registers.now }
-            ensures { IsSeat table.entry.now result.0
-                × IsDone (setup_at table.entry.now) result.0.seat.me.0 }
-        { race_part(table, alloc, registers, first) },
-        move || -> Ended
-            requires { IsTable table.now × IsSeat table.now second
-                × IsDone (setup_at table.now) second.seat.me.0
-                × AreRoots (setup_at table.now).before registers.now }
-            ensures { IsSeat table.entry.now result.0 }
-        { race_part(table, alloc, registers, second) },
-    )
-}
-
 /// Traces a heap from its registers and globals, and in a nursery collection from its logged
 /// objects, by one worker.
-pub(crate) fn trace_alone<R: Threads + Sync + Abort>(
-    rt: &R,
+pub(crate) fn trace_alone(
+    rt: &impl Abort,
     alloc: Global,
     built: Built,
     run: TraceRun,
@@ -257,46 +205,5 @@ pub(crate) fn trace_alone<R: Threads + Sync + Abort>(
         traced,
         registers,
         scanned,
-    })
-}
-
-/// The same by two workers. Both claim all registers, on threads of their own, and scan what they
-/// won. Then one sets the globals, and scans what is left.
-pub(crate) fn trace_together<R: Threads + Sync + Abort>(
-    rt: &R,
-    alloc: Global,
-    built: Built,
-    run: TraceRun,
-) -> Result<Outcome, Fail>
-    requires { MayRun (heap_state built.heap) run }
-{
-    let Built { heap, registers } = built;
-    let (mut table, mut seats) = TraceTable::begin(alloc, heap, run, 2)?;
-    let globals = table.take_globals(alloc)?;
-    let stack = table.take_logged(alloc)?;
-    let Some(second) = seats.pop() else {
-        panic!(rt; "no seat");
-    };
-    let Some(first) = seats.pop() else {
-        panic!(rt; "no second seat");
-    };
-    let (one, other) = race_parts(rt, &table, alloc, &registers, first, second);
-    let part = Part {
-        seat: one.0,
-        globals,
-        stack,
-    };
-    let (first, rest) = work_part(&table, alloc, &[], part);
-    seats.push(first)?;
-    seats.push(other.0)?;
-    let traced = table.close(seats);
-    let (registers, scanned) = one.1?;
-    let (same, more) = other.1?;
-    let (_, last) = rest?;
-    assert_eq!(rt; registers.as_slice(), same.as_slice());
-    Ok(Outcome {
-        traced,
-        registers,
-        scanned: scanned.wrapping_add(more).wrapping_add(last),
     })
 }

@@ -6,18 +6,18 @@ ghost use Rattle.sessions.specs.Collecting.{Remembers};
 ghost use Rattle.collector.specs.Collected.{IsOffered};
 
 use crate::heaps::{Built, with_roots};
-use collector::{Collected, Note, collect};
+use collector::{Collected, MAX_WORKERS, Note, collect};
 use heap_graph::{Place, graph};
 use object_model::{Collect, Heap, are_roots};
 use plan_api::Plan;
-use pools::PlainPool;
+use pools::StealPool;
 use std::alloc::{AllocError, Global};
 use std::process::Abort;
 use std::sync::atomic::{AtomicU64, Ordering};
 use std::thread::Threads;
 use work_packets::{Gate, Point};
 
-// A gate that counts how often the first worker passes before and after an item.
+// A gate that counts how often workers pass before and after an item.
 #[derive(Drop)]
 struct CountingGate {
     claim: AtomicU64,
@@ -26,10 +26,10 @@ struct CountingGate {
 
 impl Gate for CountingGate {
     fn pass(&self, who: u32, point: Point) {
-        if who == 17 && point == Point::Claim {
+        if who > 16 && point == Point::Claim {
             self.claim.fetch_add(1, Ordering::SeqCst);
         }
-        if who == 17 && point == Point::Claimed {
+        if who > 16 && point == Point::Claimed {
             self.claimed.fetch_add(1, Ordering::SeqCst);
         }
     }
@@ -56,13 +56,14 @@ pub(crate) struct Pass {
     pub(crate) claimed: u64,
 }
 
-/// A collection, and how often the gate was passed before and after an item.
+/// A collection by so many workers, and how often the gate was passed before and after an item.
 pub(crate) fn collect_counted<P: Plan, R: Abort + Threads + Sync>(
     rt: &R,
     alloc: Global,
     heap: Heap,
     roots: Vec<u32>,
     kind: Collect,
+    workers: u32,
 ) -> Result<(Collected, u64, u64), AllocError>
     requires offered { IsOffered P.rules kind (heap_state heap) }
     ensures { IfOk result (λ r. P.rules.collects ≡ true
@@ -72,12 +73,14 @@ pub(crate) fn collect_counted<P: Plan, R: Abort + Threads + Sync>(
         claim: AtomicU64::new(0),
         claimed: AtomicU64::new(0),
     };
-    let pool = PlainPool;
+    let pool = StealPool;
+    assert!(rt; 1 <= workers);
+    assert!(rt; workers <= MAX_WORKERS);
     let Built { heap, registers } = with_roots(rt, heap, roots);
     assert!(rt; heap.number() < 1_000_000);
     assert!(rt; registers.len() <= 1_000_000);
-    let made = collect::<P, PlainPool, CountingGate, R>(
-        rt, alloc, heap, registers, kind, 1, &pool, &gate,
+    let made = collect::<P, StealPool, CountingGate, R>(
+        rt, alloc, heap, registers, kind, workers, &pool, &gate,
     )?;
     let claim = gate.claim.load(Ordering::SeqCst);
     Ok((made, claim, gate.claimed.load(Ordering::SeqCst)))

@@ -12,4 +12,4 @@ collect-requires-clause-offered g c κs within =
 
 pub returns : goal.returns
 returns g c is =
-    remembers-after-collection g.P.Plan.rules.collects g.P.Plan.rules 1 c.args.kind _ (heap_state c.in_ok-made.made.heap) _ _ is c.in_ok-made.ensures.0 c.in_ok-made.made.heap.lawful
+    remembers-after-collection g.P.Plan.rules.collects g.P.Plan.rules 1 c.args.kind _ (heap_state c.in_ok-made.made.heap) _ _ is c.in_ok-made.ensures.collected.0 c.in_ok-made.made.heap.lawful
