@@ -1,5 +1,5 @@
 #!/usr/bin/env python3
-"""Runs mm_drive with each of its allocations refused in turn, under each plan.
+"""Runs mm_drive with each of its allocations refused in turn, under each plan, by 1 and 4 workers.
 
     python3 bench/refused.py [BINARY]
 
@@ -16,6 +16,8 @@ import tempfile
 BUILT = pathlib.Path(__file__).parent.parent / "crates/mm_drive/out/mm_drive"
 
 PLANS = ["nogc", "marksweep", "semispace", "gencopy", "immix", "stickyimmix"]
+
+WORKERS = [1, 4]
 
 # Refuses the allocation whose number is in REFUSED, and makes the file `refusal` then.
 REFUSER = r"""
@@ -52,12 +54,13 @@ ROWS = [
 ]
 
 
-def words_of(plan, heap, options, traces):
+def words_of(plan, heap, workers, options, traces):
     files = [f"f{m}" for m in range(len(traces))]
     for file, commands in zip(files, traces):
         lines = [line + "\n" for line in ["mmtrace 1", *commands.split(";")] if line]
         pathlib.Path(file).write_text("".join(lines))
-    return ["./mm_drive", "--plan", plan, "--heap", str(heap), *options.split(), *files]
+    sizes = ["--heap", str(heap), "--workers", str(workers)]
+    return ["./mm_drive", "--plan", plan, *sizes, *options.split(), *files]
 
 
 def run(words, refused):
@@ -92,9 +95,11 @@ def main():
         pathlib.Path("refuser.c").write_text(REFUSER)
         subprocess.run(["cc", "-shared", "-fPIC", "-o", "refuser.so", "refuser.c"], check=True)
         for name, heap, options, traces in ROWS:
-            for plan in PLANS:
-                wanting, well, otherwise = refuse_each(words_of(plan, heap, options, traces))
-                print(f"{name}, {plan}: status 7 {wanting}, 0 {well}, otherwise {otherwise}")
+            for plan, workers in itertools.product(PLANS, WORKERS):
+                words = words_of(plan, heap, workers, options, traces)
+                wanting, well, otherwise = refuse_each(words)
+                ends = f"status 7 {wanting}, 0 {well}, otherwise {otherwise}"
+                print(f"{name}, {plan}, {workers} workers: {ends}")
                 all_otherwise += otherwise
         os.chdir("/")
     sys.exit(f"{all_otherwise} runs end otherwise" if all_otherwise else 0)
