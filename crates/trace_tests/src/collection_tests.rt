@@ -166,7 +166,10 @@ fn check_plans<R: Abort + Threads + Sync>(
 ) -> Result<Vec<Note>, Fail> {
     collect_each::<NoGc, NoGc, R>(rt, alloc, setting, Way::Counts, commands, passes)?;
     collect_each::<MarkSweep, MarkSweep, R>(rt, alloc, setting, Way::Sweeps, commands, passes)?;
-    collect_each::<Immix, Immix, R>(rt, alloc, setting, Way::CopiesSome, commands, passes)?;
+    // Immix holds back a block, so such a heap cannot be built under it.
+    if setting.room {
+        collect_each::<Immix, Immix, R>(rt, alloc, setting, Way::CopiesSome, commands, passes)?;
+    }
     collect_each::<NoGc, SemiSpace, R>(rt, alloc, setting, Way::Copies, commands, passes)
 }
 
