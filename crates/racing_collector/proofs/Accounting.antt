@@ -13,7 +13,7 @@ use Rattle.trace_core.proofs.CountedRights.{times-cons, count-append}
 use Rattle.trace_words.specs.Rule.{HasLined}
 use Rattle.trace_words.specs.Steps.{IsDone}
 use Rattle.trace_words.specs.declared.share.Share.{Share}
-use Rattle.trace_table.specs.Seats.{IsSeat, IsGrey, setup_at, Keeps, Looks, Asks, Wins, Copies, Pushes, ScansNoOther}
+use Rattle.trace_table.specs.Seats.{IsSeat, IsGrey, setup_at, Keeps, Asks, Wins, Copies, Pushes, ScansNoOther}
 use Rattle.trace_table.specs.declared.table.TraceTable.{TraceTable}
 use Rattle.trace_table.specs.declared.table.WorkerSeat.{WorkerSeat}
 use Rattle.trace_table.specs.declared.tokens.Grey.{Grey}
@@ -114,6 +114,14 @@ module _ (r : Racing) where
   pub gave-one : (v u w : Share) (a b : List Grey) (g : Grey) → u.gave ≡ v.gave → w.gave ≡ u.gave + 1 → b ≡ a ++ g ∷ [] → w.gave + length a ≡ v.gave + length b
   gave-one v u w a b g first last out = let more : length b ≡ length (a ++ g ∷ []) = ap length out in let sum = length-append a (g ∷ []) in omega arith
 
+  -- a token more is that of an object that was copied
+  pub copied-pushed : (v w : Share) (a b : List Grey) → Pushes v w a b → length w.copied + length a ≡ length v.copied + length b
+  copied-pushed v w a b by = let many = by.many in let out : length b ≡ length (a ++ by.pushed) = ap length by.out in let sum = length-append a by.pushed in omega arith
+
+  pub copied-one : (v u w : Share) (x : ℕ) (a b : List Grey) (g : Grey) → u.copied ≡ v.copied → w.copied ≡ x ∷ u.copied → b ≡ a ++ g ∷ [] → length w.copied + length a ≡ length v.copied + length b
+  copied-one v u w x a b g first last out = let more : length b ≡ length (a ++ g ∷ []) = ap length out in let sum = length-append a (g ∷ []) in
+      let before : length u.copied ≡ length v.copied = ap length first in let after : length w.copied ≡ length (x ∷ u.copied) = ap length last in omega arith
+
   -- an object was scanned
   pub lines-scanned : (g : Grey) (v w : Share) → IsGrey t g → 0 < hits g.object g.target w.known → ScansNoOther g.object v w
       → ((line : ℕ) → TouchesLine (blocks p) g.target g.size line → HasLined p w line)
@@ -147,19 +155,18 @@ module _ (r : Racing) where
   none-copied x v w same = let e : times x w.copied ≡ times x v.copied = ap (times x) same in omega (arith, e)
 
   module _ (x : ℕ) (root : (i : ℕ) × (slice_index r.roots.items i ≡ x)) where
-    pub accounts-asked : (v u w : Share) (served : List Served) (greys : List Grey) → Looks v u → Asks x u w → Accounts r v served greys → Accounts r w served greys
-    accounts-asked v u w served greys looks asks was =
-        let more = asked-more x v.asked w.asked (asks.asked ∙ ap (λ l. x ∷ l) looks.asked) in
-        let same : w.grey ≡ v.grey = asks.grey ∙ looks.grey in
-        subst (Accounts r w served) (append-nil greys) (accounts-on v w served greys [] (keeps-trans v u w looks.keeps asks.keeps)
-        (λ y. none-copied y v w (asks.copied ∙ looks.copied)) (All-nil (IsGiven t w)) (λ on y k has. inl (subst (λ l. 0 < hits y k l) same has))
+    pub accounts-asked : (v w : Share) (served : List Served) (greys : List Grey) → Asks x v w → Accounts r v served greys → Accounts r w served greys
+    accounts-asked v w served greys asks was =
+        let more = asked-more x v.asked w.asked asks.asked in
+        subst (Accounts r w served) (append-nil greys) (accounts-on v w served greys [] asks.keeps
+        (λ y. none-copied y v w asks.copied) (All-nil (IsGiven t w)) (λ on y k has. inl (subst (λ l. 0 < hits y k l) asks.grey has))
         more.0 (λ y some. elim (more.1 y some) as (λ _. (0 < times y v.asked) ⊎ ((i : ℕ) × (slice_index r.roots.items i ≡ y))) [
           | inl before ↦ inl before
           | inr here ↦ inr (root.0, root.1 ∙ here)
         ]) was)
 
-    pub asked-now : (v u w : Share) → Asks x u w → 0 < times x w.asked
-    asked-now v u w asks = here-asked x u.asked w.asked asks.asked
+    pub asked-now : (v w : Share) → Asks x v w → 0 < times x w.asked
+    asked-now v w asks = here-asked x v.asked w.asked asks.asked
 
     -- it claimed and copied its object
     module _ (v u w : Share) (token : Won) (wins : Wins p x ByRoot v u token) (copies : Copies token.object u w) where
@@ -187,13 +194,6 @@ module _ (r : Racing) where
 
       pub known-won : 0 < hits x token.target w.known
       known-won = copies.keeps.known x token.target wins.target
-
-  pub done-asked : (x : ℕ) (v u w : Share) → IsDone p v → Looks v u → Asks x u w → IsDone p w
-  done-asked x v u w done looks asks = record {
-    won = asks.won ∙ looks.won ∙ done.won;
-    unset = asks.keeps.unset ∙ looks.keeps.unset ∙ done.unset;
-    grey = λ y k some. done.grey y k (subst (λ l. 0 < hits y k l) (asks.grey ∙ looks.grey) some);
-  }
 
   pub held-some : (x : ℕ) → IsHeld p.before x → 0 < x
   held-some x there = let from : heap_of (blocks p) ≤ x = there.address.from in omega (arith, from)

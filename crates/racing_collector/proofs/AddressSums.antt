@@ -44,6 +44,23 @@ sum-none f a (suc n) none =
     let rest : sum_over f (a + 1) n ≡ 0 = sum-none f (a + 1) n (λ i from below. none i (omega arith) (omega arith)) in
     omega arith
 
+sum-less : (f g : ℕ → ℕ) (a n : ℕ) → ((i : ℕ) → f i ≤ g i) → sum_over f a n ≤ sum_over g a n
+sum-less f g a zero less = omega arith
+sum-less f g a (suc n) less =
+    let left : sum_over f a (suc n) ≡ f a + sum_over f (a + 1) n = sum-first f a n in
+    let right : sum_over g a (suc n) ≡ g a + sum_over g (a + 1) n = sum-first g a n in
+    let here : f a ≤ g a = less a in
+    let rest : sum_over f (a + 1) n ≤ sum_over g (a + 1) n = sum-less f g (a + 1) n less in
+    omega arith
+
+sum-ones : (f : ℕ → ℕ) (a n : ℕ) → ((i : ℕ) → f i ≤ 1) → sum_over f a n ≤ n
+sum-ones f a zero one = omega arith
+sum-ones f a (suc n) one =
+    let all : sum_over f a (suc n) ≡ f a + sum_over f (a + 1) n = sum-first f a n in
+    let here : f a ≤ 1 = one a in
+    let rest : sum_over f (a + 1) n ≤ n = sum-ones f (a + 1) n one in
+    omega arith
+
 -- the sum of what is at one address
 abbrev only : (ℕ → ℕ) → ℕ → ℕ → ℕ
 only weight x i = one_if (nat_eq i x) * weight i
@@ -101,6 +118,29 @@ module _ (b : ℕ) where
 
   abbrev once : ℕ → ℕ
   once a = 1
+
+  -- at most one at each address
+  pub total-ones : (f : ℕ → ℕ) → ((i : ℕ) → f i ≤ 1) → total b f ≤ row_words b
+  total-ones f one = sum-ones f 0 (row_words b) one
+
+  -- a list of addresses has as many as there are at all addresses
+  pub total-list : (l : List ℕ) → ((x : ℕ) → 0 < times x l → x < row_words b) → total b (λ a. times a l) ≡ length l
+  total-list [] there = sum-none (λ a. times a []) 0 (row_words b) (λ i _ _. refl)
+  total-list (x ∷ l) there =
+      let rest : total b (λ a. times a l) ≡ length l = total-list l (λ y some. there y (let a = times-cons x l y in omega arith)) in
+      let below : x < row_words b = there x (let a = times-cons x l x in let one : one_if (nat_eq x x) ≡ 1 = ap one_if (eq-eqb x x refl) in omega arith) in
+      let here : total b (only once x) ≡ 1 = sum-only once x 0 (row_words b) (omega arith) (omega arith) in
+      let parts : total b (λ a. times a (x ∷ l)) ≡ total b (λ a. only once x a + times a l)
+      = total-same (λ a. times a (x ∷ l)) (λ a. only once x a + times a l) (λ a _. (let c = times-cons x l a in let e : only once x a ≡ one_if (nat_eq a x) = one-time (one_if (nat_eq a x)) in omega arith)) in
+      let both : total b (λ a. only once x a + times a l) ≡ total b (only once x) + total b (λ a. times a l) = total-both (only once x) (λ a. times a l) in
+      omega arith
+    where
+      one-time : (n : ℕ) → n * 1 ≡ n
+      one-time n = omega arith
+
+  -- a list of some of them, each once, is no longer than all are
+  pub few-listed : (l : List ℕ) (some : ℕ → ℕ) → ((x : ℕ) → times x l ≤ some x) → ((x : ℕ) → 0 < times x l → x < row_words b) → length l ≤ total b some
+  few-listed l some each there = let a = total-list l there in let c : total b (λ x. times x l) ≤ total b some = sum-less (λ x. times x l) some 0 (row_words b) each in omega arith
 
   length-once : (pushed : List Grey) → sum_by (λ (grey : Grey). once grey.object) pushed ≡ length pushed
   length-once [] = refl

@@ -1,6 +1,6 @@
 -- Tokens are handed on in a packet, and counted.
-use Rattle.std.proofs.Common.{◌≡◌, sym, subst, ap, ◌∙◌, ℕ, ◌+◌, ◌<◌, ◌≤◌, ◌⊎◌, inl, inr, arith, List, [], ◌∷◌, ◌++◌, All, length, length-append, append-nil, append_assoc}
-use Rattle.std.specs.Prelude.{count_by, sum_by}
+use Rattle.std.proofs.Common.{◌≡◌, sym, subst, ap, ◌∙◌, ℕ, ◌+◌, ◌-◌, ◌^◌, ◌<◌, ◌≤◌, ◌⊎◌, inl, inr, arith, List, [], ◌∷◌, ◌++◌, All, length, length-append, append-nil, append_assoc}
+use Rattle.std.specs.Prelude.{sum_by}
 use Rattle.std.proofs.lemmas.List.Concat.{flat_map-append}
 use Rattle.std.proofs.lemmas.List.Elements.{All-nil, All-cons, All-head, All-push}
 use Rattle.std.proofs.lemmas.List.Sums.{sum_by-append, sum_by-cons}
@@ -13,18 +13,22 @@ use Rattle.work_packets.specs.declared.packet.Packet.{Packet}
 use Rattle.racing_collector.specs.declared.item.RaceItem.{RaceItem}
 use Rattle.racing_collector.specs.declared.item.RaceItem.TheVariants.{Object}
 use Rattle.racing_collector.specs.declared.tally.Tally.{Tally}
-use Rattle.racing_collector.specs.Accounts.{CountsMore, has_moved}
+use Rattle.racing_collector.specs.Accounts.{CountsMore, capped, has_moved}
 use Rattle.racing_collector.specs.Items.{IsScan, is_token, items_of, references, tokens}
 use Rattle.racing_collector.proofs.Accounting.{all-left, all-right}
 
 -- an object more is counted
 pub record CountsOne (before after : Tally) (g : Grey) : Type 0 where
-  pub kept : after.kept ≡ before.kept + 1
-  pub moved : after.moved ≡ before.moved + one_if (has_moved g)
-  pub words : after.words ≡ before.words + g.size
+  pub kept : after.kept ≡ capped (2 ^ 32 - 1) (before.kept + 1)
+  pub moved : after.moved ≡ capped (2 ^ 32 - 1) (before.moved + one_if (has_moved g))
+  pub words : after.words ≡ capped (2 ^ 64 - 1) (before.words + g.size)
 
-pub counts-none : (t : Tally) → CountsMore t t []
-counts-none t = record { kept = omega arith; moved = omega arith; words = omega arith }
+counts-one : (a b : Tally) (g : Grey) → CountsOne a b g → CountsMore a b (g ∷ [])
+counts-one a b g is = record {
+  kept = (let y = is.kept in omega arith);
+  moved = (let y = is.moved in let z = count-cons has_moved g [] in omega arith);
+  words = (let y = is.words in let z = sum_by-cons (λ (h : Grey). h.size) g [] in omega arith);
+}
 
 pub counts-more : (a b c : Tally) (l : List Grey) (g : Grey) → CountsMore a b l → CountsOne b c g → CountsMore a c (g ∷ l)
 counts-more a b c l g was is = record {
@@ -49,7 +53,7 @@ pub hands-first : (all : List Grey) (before after : Tally) (first : Grey) (items
 hands-first all before after first items room is one cut = record {
   more = [];
   left = sym (append-nil all);
-  counts = counts-more before before after [] first (counts-none before) one;
+  counts = counts-one before after first one;
   tokens_is = ap tokens is;
   count = ap length is;
   scans = λ t greys. (
@@ -86,24 +90,46 @@ hands-next all before mid after first won rest items more room left g was popped
     longer : length more ≡ length items + 1
     longer = ap length pushed ∙ length-append items (Object g ∷ [])
 
--- packets that were pushed, from the beginning on
+-- Of a list of tokens `won` are left. The others are counted.
 pub record Sums (all : List Grey) (before : Tally) (won : List Grey) (after : Tally) : Type 0 where
-  pub kept : after.kept + length won ≡ before.kept + length all
-  pub moved : after.moved + count_by has_moved won ≡ before.moved + count_by has_moved all
-  pub words : after.words + sum_by (λ (g : Grey). g.size) won ≡ before.words + sum_by (λ (g : Grey). g.size) all
+  pub done : List Grey
+  pub parts : all ≡ won ++ done
+  pub counts : CountsMore before after done
+
+pub sums-none : (all : List Grey) (t : Tally) → t.kept < 2 ^ 32 → t.moved < 2 ^ 32 → t.words < 2 ^ 64 → Sums all t all t
+sums-none all t kept moved words = record {
+  done = [];
+  parts = sym (append-nil all);
+  counts = record { kept = omega arith; moved = omega arith; words = omega arith };
+}
+
+-- what a packet takes from a list
+left-of : (won popped rest : List Grey) (first : Grey) (extra : List Grey) → won ≡ popped ++ first ∷ [] → popped ≡ rest ++ extra → won ≡ rest ++ (extra ++ first ∷ [])
+left-of won popped rest first extra popped-is rest-is = popped-is ∙ ap (λ l. l ++ first ∷ []) rest-is ∙ append_assoc rest extra (first ∷ [])
+
+-- counts one after the other
+counts-both : (a b c : Tally) (l m : List Grey) → CountsMore a b l → CountsMore b c m → CountsMore a c (m ++ l)
+counts-both a b c l m was is = record {
+  kept = (let x = was.kept in let y = is.kept in let z = length-append m l in omega (arith, x, y, z));
+  moved = (let x = was.moved in let y = is.moved in let z = count-append has_moved m l in omega (arith, x, y, z));
+  words = (let x = was.words in let y = is.words in let z = sum_by-append (λ (g : Grey). g.size) m l in omega (arith, x, y, z));
+}
 
 pub sums-next : (all : List Grey) (before mid after : Tally) (won popped rest : List Grey) (first : Grey) (extra : List Grey) → Sums all before won mid → won ≡ popped ++ first ∷ [] → popped ≡ rest ++ extra
     → CountsMore mid after (extra ++ first ∷ []) → Sums all before rest after
 sums-next all before mid after won popped rest first extra was popped-is rest-is counts = record {
-  kept = (let a = was.kept in let b = counts.kept in let c : length won ≡ length (rest ++ (extra ++ first ∷ [])) = ap length both in let d = length-append rest (extra ++ first ∷ []) in omega (arith, a, b, c, d));
-  moved = (let a = was.moved in let b = counts.moved in let c : count_by has_moved won ≡ count_by has_moved (rest ++ (extra ++ first ∷ [])) = ap (count_by has_moved) both in
-      let d = count-append has_moved rest (extra ++ first ∷ []) in omega (arith, a, b, c, d));
-  words = (let a = was.words in let b = counts.words in let c : sum_by (λ (g : Grey). g.size) won ≡ sum_by (λ (g : Grey). g.size) (rest ++ (extra ++ first ∷ [])) = ap (sum_by (λ (g : Grey). g.size)) both in
-      let d = sum_by-append (λ (g : Grey). g.size) rest (extra ++ first ∷ []) in omega (arith, a, b, c, d));
+  done = (extra ++ first ∷ []) ++ was.done;
+  parts = was.parts ∙ ap (λ l. l ++ was.done) (left-of won popped rest first extra popped-is rest-is) ∙ append_assoc rest (extra ++ first ∷ []) was.done;
+  counts = counts-both before mid after was.done (extra ++ first ∷ []) was.counts counts;
 }
-  where
-    both : won ≡ rest ++ (extra ++ first ∷ [])
-    both = popped-is ∙ ap (λ l. l ++ first ∷ []) rest-is ∙ append_assoc rest extra (first ∷ [])
+
+pub fewer-left : (won popped rest : List Grey) (first : Grey) (extra : List Grey) → won ≡ popped ++ first ∷ [] → popped ≡ rest ++ extra → length won ≡ length rest + (length extra + 1)
+fewer-left won popped rest first extra popped-is rest-is = ap length (left-of won popped rest first extra popped-is rest-is) ∙ length-append rest (extra ++ first ∷ [])
+    ∙ ap (λ n. length rest + n) (length-append extra (first ∷ []))
+
+-- all are counted
+pub sums-all : (all : List Grey) (before after : Tally) (won : List Grey) → won ≡ [] → Sums all before won after → CountsMore before after all
+sums-all all before after won none is = subst (CountsMore before after) (sym (is.parts ∙ ap (λ l. l ++ is.done) none)) is.counts
 
 pub items-more : (ps : List (Packet RaceItem)) (q : Packet RaceItem) → items_of (ps ++ q ∷ []) ≡ items_of ps ++ q.items.items
 items-more ps q = flat_map-append (λ (p : Packet RaceItem). p.items.items) ps (q ∷ []) ∙ ap (λ is. items_of ps ++ is) (append-nil q.items.items)

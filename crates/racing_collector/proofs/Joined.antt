@@ -1,5 +1,5 @@
 -- The accounts of all workers together.
-use Rattle.std.proofs.Common.{◌≡◌, ℕ, ◌<◌, inl, inr, nat_eq, List, [], ◌∷◌, ◌++◌, All, map, slice_index, length, length-append, refl, sym, ap, ◌∙◌, subst, arith}
+use Rattle.std.proofs.Common.{◌≡◌, ℕ, ◌-◌, ◌^◌, ◌<◌, inl, inr, nat_eq, List, [], ◌∷◌, ◌++◌, All, map, slice_index, length, length-append, refl, sym, ap, ◌∙◌, subst, arith}
 use Rattle.std.specs.Prelude.{count_by, sum_by}
 use Rattle.std.specs.List.{flat_map}
 use Rattle.std.proofs.lemmas.Bool.{cases_lt}
@@ -16,7 +16,7 @@ use Rattle.trace_table.specs.declared.tokens.Grey.{Grey}
 use Rattle.racing_collector.specs.declared.racing.Racing.{Racing}
 use Rattle.racing_collector.specs.declared.served.Served.{Served}
 use Rattle.racing_collector.specs.declared.tally.Tally.{Tally}
-use Rattle.racing_collector.specs.Accounts.{Accounts, HasItsLines, IsAccounted, IsGiven, IsServed, IsTargetOf, has_moved}
+use Rattle.racing_collector.specs.Accounts.{Accounts, HasItsLines, IsAccounted, IsGiven, IsServed, IsTargetOf, capped, has_moved}
 use Rattle.racing_collector.specs.Working.{Worked, IsWorked}
 use Rattle.racing_collector.proofs.Accounting.{objects-append}
 
@@ -112,9 +112,9 @@ all_shares ws = map (λ (w : Worked). w.share) ws
 record Counted (r : Racing) (v : Share) (served : List Served) (kept moved words : ℕ) : Type 0 where
   pub greys : List Grey
   pub accounts : Accounts r v served greys
-  pub kept_is : kept ≡ length greys
-  pub moved_is : moved ≡ count_by has_moved greys
-  pub words_is : words ≡ sum_by (λ (g : Grey). g.size) greys
+  pub kept_is : capped (2 ^ 32 - 1) kept ≡ capped (2 ^ 32 - 1) (length greys)
+  pub moved_is : capped (2 ^ 32 - 1) moved ≡ capped (2 ^ 32 - 1) (count_by has_moved greys)
+  pub words_is : capped (2 ^ 64 - 1) words ≡ capped (2 ^ 64 - 1) (sum_by (λ (g : Grey). g.size) greys)
 
 module _ (r : Racing) (v : Share) (none : Accounts r v [] []) where
   all-counted : (ws : List Worked) → All (IsWorked r) ws → Counted r (joined (all_shares ws) v) (all_served ws) (kepts ws) (moves ws) (sizes ws)
@@ -131,7 +131,7 @@ module _ (r : Racing) (v : Share) (none : Accounts r v [] []) where
 
   -- the workers account for all shares together
   pub all-accounted : (ws : List Worked) → All (IsWorked r) ws → (served : List Served) (tally : Tally) (shares : List Share) → shares ≡ all_shares ws → served ≡ all_served ws
-      → tally.kept ≡ kepts ws → tally.moved ≡ moves ws → tally.words ≡ sizes ws → IsAccounted r (joined shares v) served tally
+      → tally.kept ≡ capped (2 ^ 32 - 1) (kepts ws) → tally.moved ≡ capped (2 ^ 32 - 1) (moves ws) → tally.words ≡ capped (2 ^ 64 - 1) (sizes ws) → IsAccounted r (joined shares v) served tally
   all-accounted ws all served tally shares shares-are served-are kept moved words = let is = all-counted ws all in record {
     greys = is.greys;
     accounts = subst (λ l. Accounts r (joined l v) served is.greys) (sym shares-are) (subst (λ l. Accounts r (joined (all_shares ws) v) l is.greys) (sym served-are) is.accounts);

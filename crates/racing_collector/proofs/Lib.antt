@@ -2,6 +2,7 @@ mod RootLists
 mod Accounting
 mod Joined
 mod AddressSums
+mod HeldObjects
 mod Whole
 mod Bucketed
 mod RacedTogether

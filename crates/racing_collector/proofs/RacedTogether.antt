@@ -1,5 +1,5 @@
 -- What all workers of a trace have done once its two buckets are run.
-use Rattle.std.proofs.Common.{◌≡◌, refl, sym, subst, ap, ap₂, ◌∙◌, ℕ, ◌+◌, arith, nat_eq, List, [], ◌∷◌, ◌++◌, length, map}
+use Rattle.std.proofs.Common.{◌≡◌, refl, sym, subst, ap, ap₂, ◌∙◌, ℕ, ◌+◌, ◌-◌, ◌^◌, arith, nat_eq, List, [], ◌∷◌, ◌++◌, length, map}
 use Rattle.std.specs.Prelude.{All, sum_by}
 use Rattle.std.specs.List.{flat_map, range_with_len}
 use Rattle.std.proofs.lemmas.List.{length-map, map-append}
@@ -20,7 +20,7 @@ use Rattle.racing_collector.specs.declared.item.RaceItem.{RaceItem}
 use Rattle.racing_collector.specs.declared.raced.Raced.{Raced}
 use Rattle.racing_collector.specs.declared.racing.Racing.{Racing}
 use Rattle.racing_collector.specs.declared.served.Served.{Served}
-use Rattle.racing_collector.specs.Accounts.{Accounts, IsGiven, IsRacer, IsServed, places}
+use Rattle.racing_collector.specs.Accounts.{Accounts, IsGiven, IsRacer, IsServed, capped, places}
 use Rattle.racing_collector.specs.Items.{IsPacketOf, items_of, registers, tokens}
 use Rattle.racing_collector.specs.Raced.{HasRaced}
 use Rattle.racing_collector.specs.Working.{Worked, IsWorked}
@@ -85,9 +85,9 @@ module _ {W : Type 0} (home : W → Racing) (work : W → Worked) (seat : W → 
     record {
       greys = [];
       accounts = subst (λ v. Accounts r v (work w).served []) (sym is.share) (subst (λ l. Accounts r (worker_share 1 is.number) l []) (sym is.served) (no-accounts r is.number));
-      kept = is.tally.0;
-      moved = is.tally.1;
-      words = is.tally.2;
+      kept = (let a = is.tally.0 in omega arith);
+      moved = (let a = is.tally.1 in omega arith);
+      words = (let a = is.tally.2 in omega arith);
     },
   )
 
@@ -153,8 +153,8 @@ module _ {W : Type 0} (home : W → Racing) (work : W → Worked) (seat : W → 
         let d = served-none i in omega arith
 
     module _ (raced : Raced) (seats : raced.seats.items ≡ map seat vs) (served : raced.served.items ≡ flat_map (λ w. (work w).served) vs)
-        (kept : raced.tally.kept ≡ sum_by (λ w. (work w).tally.kept) vs) (moved : raced.tally.moved ≡ sum_by (λ w. (work w).tally.moved) vs)
-        (counted : raced.tally.words ≡ sum_by (λ w. (work w).tally.words) vs) (workers : length ws ≡ (setup_at r.table).workers) where
+        (kept : raced.tally.kept ≡ capped (2 ^ 32 - 1) (sum_by (λ w. (work w).tally.kept) vs)) (moved : raced.tally.moved ≡ capped (2 ^ 32 - 1) (sum_by (λ w. (work w).tally.moved) vs))
+        (counted : raced.tally.words ≡ capped (2 ^ 64 - 1) (sum_by (λ w. (work w).tally.words) vs)) (workers : length ws ≡ (setup_at r.table).workers) where
       shares : shares_of raced.seats.items ≡ all_shares (map work vs)
       shares = ap shares_of seats ∙ map-map seat (λ (s : WorkerSeat). s.seat.me.0) vs ∙ same vs ∙ sym (map-map work (λ (w : Worked). w.share) vs)
         where
@@ -177,5 +177,6 @@ module _ {W : Type 0} (home : W → Racing) (work : W → Worked) (seat : W → 
         roots = λ i. ap (λ l. times i (places l)) (served ∙ sym (flat-map work (λ (w : Worked). w.served) vs)) ∙ sum-places i (map work vs) ∙ sum-map work (λ (w : Worked). times i (places w.served)) vs ∙ all-served i;
         accounts = λ v none. all-accounted r v none (map work vs) (all-map work (IsWorked r) vs (All-weaker (IsOf home work r) (λ w. IsWorked r (work w)) (λ w is. is.1) vs all-of))
             raced.served.items raced.tally (shares_of raced.seats.items) shares (served ∙ sym (flat-map work (λ (w : Worked). w.served) vs))
-            (kept ∙ sym (sum-map work (λ (w : Worked). w.tally.kept) vs)) (moved ∙ sym (sum-map work (λ (w : Worked). w.tally.moved) vs)) (counted ∙ sym (sum-map work (λ (w : Worked). w.tally.words) vs));
+            (kept ∙ ap (capped (2 ^ 32 - 1)) (sym (sum-map work (λ (w : Worked). w.tally.kept) vs))) (moved ∙ ap (capped (2 ^ 32 - 1)) (sym (sum-map work (λ (w : Worked). w.tally.moved) vs)))
+            (counted ∙ ap (capped (2 ^ 64 - 1)) (sym (sum-map work (λ (w : Worked). w.tally.words) vs)));
       }

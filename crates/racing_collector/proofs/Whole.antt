@@ -1,5 +1,5 @@
 -- A trace of which nothing is left to do is whole: roots have their targets, lines are marked, and what was claimed is counted.
-use Rattle.std.proofs.Common.{◌≡◌, refl, sym, ◌∙◌, ap, subst, ℕ, ◌+◌, ◌*◌, ◌<◌, ◌⊎◌, inl, inr, arith, not, nat_eq, true, false, IsTrue, Some, List, [], ◌∷◌, All, map, length, slice_index}
+use Rattle.std.proofs.Common.{◌≡◌, refl, sym, ◌∙◌, ap, subst, ℕ, ◌+◌, ◌-◌, ◌*◌, ◌^◌, ◌<◌, ◌≤◌, ◌⊎◌, inl, inr, arith, Bool, not, nat_eq, true, false, IsTrue, Some, List, [], ◌∷◌, All, map, length, slice_index}
 use Rattle.std.specs.Prelude.{◌&&◌, nat_lt, sum_by, count_by}
 use Rattle.std.proofs.lemmas.Bool.{and_from, and_left, cases_eq, cases_lt, eq-eqb, lt-ltb, ne_eqb}
 use Rattle.std.proofs.lemmas.List.{ext_get_or, get_or-map, get_or_past, length-map}
@@ -37,9 +37,13 @@ use Rattle.trace_table.specs.declared.tokens.Grey.{Grey}
 use Rattle.racing_collector.specs.declared.racing.Racing.{Racing}
 use Rattle.racing_collector.specs.declared.served.Served.{Served}
 use Rattle.racing_collector.specs.declared.tally.Tally.{Tally}
-use Rattle.racing_collector.specs.Accounts.{Accounts, HasItsLines, IsGiven, IsServed, IsTargetOf, has_moved, places}
+use Rattle.racing_collector.specs.Accounts.{Accounts, HasItsLines, IsGiven, IsServed, IsTargetOf, capped, has_moved, places}
 use Rattle.racing_collector.specs.Together.{CountsClaimed, FillsBlocks, LinesOfClaimed, is_claimed, total}
-use Rattle.racing_collector.proofs.AddressSums.{total-same, total-tokens, total-length, sum-equal}
+use Rattle.racing_collector.proofs.AddressSums.{total-same, total-ones, total-tokens, total-length, sum-equal}
+
+one-most : (b : Bool) → one_if b ≤ 1
+one-most true = omega arith
+one-most false = omega arith
 
 -- sizes do not change as a trace begins
 module _ (s : HeapState) (run : TraceRun) (lawful : IsLawfulButLines s) (listed : (x : ℕ) → 0 < times x run.logged.items → IsAddress s.blocks x) where
@@ -155,7 +159,7 @@ module _ (p : Setup) (words : List ℕ) (v : Share) (leaves : LeavesTrace p word
 
     -- counts
     module _ (s : HeapState) (same : blocks p ≡ s.blocks) (sizes : (a : ℕ) → IsHeld p.before a → size p a ≡ size_at s a) (tally : Tally)
-        (kept : tally.kept ≡ length greys) (moved : tally.moved ≡ count_by has_moved greys) (counted : tally.words ≡ sum_by (λ (g : Grey). g.size) greys) where
+        (kept : tally.kept ≡ capped (2 ^ 32 - 1) (length greys)) (moved : tally.moved ≡ capped (2 ^ 32 - 1) (count_by has_moved greys)) (counted : tally.words ≡ capped (2 ^ 64 - 1) (sum_by (λ (g : Grey). g.size) greys)) where
       is-of : (g : Grey) → IsGiven r.table v g → IsHeld p.before g.object × (g.size ≡ size p g.object) × (g.target ≡ F g.object)
       is-of g is = (subst (λ (q : Setup). IsHeld q.before g.object) setup is.grey.held, is.grey.size ∙ ap (λ (q : Setup). size q g.object) setup, known-is g.object g.target is.known)
 
@@ -179,10 +183,46 @@ module _ (p : Setup) (words : List ℕ) (v : Share) (leaves : LeavesTrace p word
           let here : one_if (has_moved g) ≡ moves g.object = ap (λ t. one_if (not (nat_eq t g.object))) is.2 in
           let rest = moved-sum l (All-tail (IsGiven r.table v) g l all) in omega arith
 
+      -- No count reaches the most of its type.
+      abbrev MOST : ℕ
+      MOST = 4396050
+
+      row-most : row_words s.blocks ≤ MOST
+      row-most = let few : blocks p ≤ 1024 = leaves.trace.ready.lawful.order.row.most in omega (arith, few, same)
+
+      few-greys : length greys ≤ MOST
+      few-greys = let a = total-length s.blocks greys below in let c : total s.blocks (λ a. times a (map (λ (g : Grey). g.object) greys)) ≤ row_words s.blocks
+          = total-ones s.blocks _ (λ a. subst (λ n. n ≤ 1) (sym (claimed a)) (one-most (is_claimed p es a))) in let d = row-most in omega (arith, a, c, d)
+
+      few-words : sum_by (λ (g : Grey). g.size) greys ≤ length greys * MOST
+      few-words = sum-few greys acc.tokens
+        where
+          sum-few : (l : List Grey) → All (IsGiven r.table v) l → sum_by (λ (g : Grey). g.size) l ≤ length l * MOST
+          sum-few [] all = omega arith
+          sum-few (g ∷ l) all = let one = All-head (IsGiven r.table v) g l all in let a = sum_by-cons (λ (h : Grey). h.size) g l in let rest = sum-few l (All-tail (IsGiven r.table v) g l all) in
+              let within = one.grey.within in let size-most : g.size ≤ MOST = (let e : row_words (blocks (setup_at r.table)) ≡ row_words s.blocks = ap row_words (ap (λ (q : Setup). blocks q) setup ∙ same) in let d = row-most in omega (arith, within, e, d)) in
+              omega (arith, a, rest, size-most)
+
+      few-moved : count_by has_moved greys ≤ length greys
+      few-moved = count-few greys
+        where
+          count-few : (l : List Grey) → count_by has_moved l ≤ length l
+          count-few [] = omega arith
+          count-few (g ∷ l) = let a = count-cons has_moved g l in let b = one-most (has_moved g) in let rest = count-few l in omega (arith, a, b, rest)
+
+      exact-kept : tally.kept ≡ length greys
+      exact-kept = let a = few-greys in omega (arith, a, kept)
+
+      exact-moved : tally.moved ≡ count_by has_moved greys
+      exact-moved = let a = few-greys in let b = few-moved in omega (arith, a, b, moved)
+
+      exact-words : tally.words ≡ sum_by (λ (g : Grey). g.size) greys
+      exact-words = let a = few-greys in let b = few-words in omega (arith, a, b, counted)
+
       pub counts : CountsClaimed s p es tally
       counts = record {
-        kept = kept ∙ sym (total-length s.blocks greys below) ∙ total-same s.blocks _ _ (λ a _. claimed a);
-        moved = moved ∙ moved-sum greys acc.tokens ∙ sym (by-weight moves);
-        words = counted ∙ sum-equal (λ (g : Grey). g.size) (λ (g : Grey). size_at s g.object) greys
+        kept = exact-kept ∙ sym (total-length s.blocks greys below) ∙ total-same s.blocks _ _ (λ a _. claimed a);
+        moved = exact-moved ∙ moved-sum greys acc.tokens ∙ sym (by-weight moves);
+        words = exact-words ∙ sum-equal (λ (g : Grey). g.size) (λ (g : Grey). size_at s g.object) greys
             (All-weaker (IsGiven r.table v) (λ g. g.size ≡ size_at s g.object) (λ g is. (is-of g is).1 ∙ sizes g.object (is-of g is).0) greys acc.tokens) ∙ sym (by-weight (size_at s));
       }

@@ -1,5 +1,5 @@
 -- What a worker of a racing trace has done, by the share of its seat.
-use Rattle.std.specs.Prelude.{◌≡◌, ℕ, ◌+◌, ◌<◌, ◌⊎◌, Bool, not, nat_eq, IsTrue, List, [], All, length, map, slice_index, count_by, sum_by}
+use Rattle.std.specs.Prelude.{◌≡◌, ℕ, ◌+◌, ◌-◌, ◌^◌, ◌<◌, ◌⊎◌, min, Bool, not, nat_eq, IsTrue, List, [], All, length, map, slice_index, count_by, sum_by}
 use Rattle.object_model.specs.Lawful.{AreRoots}
 use Rattle.object_model.specs.Lines.{TouchesLine}
 use Rattle.object_model.specs.Times.{times}
@@ -62,24 +62,28 @@ pub record Accounts (r : Racing) (v : Share) (served : List Served) (greys : Lis
   pub roots : All (IsServed r v) served
   -- only roots asked
   pub by_roots : (x : ℕ) → 0 < times x v.asked → (i : ℕ) × (slice_index r.roots.items i ≡ x)
-  -- it left no block that had room for any size up to MAX_MEDIUM_WORDS
+  -- each block that it left has more than MAX_MEDIUM_WORDS kept words
   pub sparse : v.sparse ≡ []
 
 -- the object of the token moves
 abbrev pub has_moved : Grey → Bool
 has_moved grey = not (nat_eq grey.target grey.object)
 
+-- a count stands still at the most that its type has
+abbrev pub capped : ℕ → ℕ → ℕ
+capped most n = min n most
+
 -- The objects of these tokens are counted too.
 pub record CountsMore (before after : Tally) (greys : List Grey) : Type 0 where
-  pub kept : after.kept ≡ before.kept + length greys
-  pub moved : after.moved ≡ before.moved + count_by has_moved greys
-  pub words : after.words ≡ before.words + sum_by (λ g. g.size) greys
+  pub kept : after.kept ≡ capped (2 ^ 32 - 1) (before.kept + length greys)
+  pub moved : after.moved ≡ capped (2 ^ 32 - 1) (before.moved + count_by has_moved greys)
+  pub words : after.words ≡ capped (2 ^ 64 - 1) (before.words + sum_by (λ g. g.size) greys)
 
 -- The tally counts the objects that the share copied.
 pub record IsAccounted (r : Racing) (v : Share) (served : List Served) (tally : Tally)
     : Type 0 where
   pub greys : List Grey
   pub accounts : Accounts r v served greys
-  pub kept : tally.kept ≡ length greys
-  pub moved : tally.moved ≡ count_by has_moved greys
-  pub words : tally.words ≡ sum_by (λ g. g.size) greys
+  pub kept : tally.kept ≡ capped (2 ^ 32 - 1) (length greys)
+  pub moved : tally.moved ≡ capped (2 ^ 32 - 1) (count_by has_moved greys)
+  pub words : tally.words ≡ capped (2 ^ 64 - 1) (sum_by (λ g. g.size) greys)

@@ -31,11 +31,11 @@ pub(crate) fn hand_on(
         → All (AreScans t) pushed.new.items) }
     ensures all { IfOk result (λ _. tokens (items_of pushed.new.items)
         ≡ length won.old.items) }
-    ensures few { IfOk result (λ _. length pushed.new.items + tally.old.kept
-        ≤ tally.new.kept) }
+    ensures few { IfOk result (λ _. length pushed.new.items ≤ length won.old.items) }
     ensures sizes { IfOk result (λ _. All HasItems pushed.new.items) }
     ensures cut { IfOk result (λ _. All IsCut pushed.new.items) }
 {
+    tally.known();
     while let Some(first) = won.pop() {
         let packet = next_packet(alloc, tally, first, won)?;
         pushed.push(packet)?;
@@ -61,14 +61,14 @@ fn next_packet(
 {
     let mut items = Vec::with_capacity(alloc, MAX_ITEMS)?;
     let mut room = MAX_REFERENCES.saturating_sub(first.refs());
-    tally.count(&first)?;
+    tally.count(&first);
     items.push_reserved(RaceItem::Object(first));
     while items.len() < MAX_ITEMS {
         let Some(grey) = pop_fitting(won, room) else {
             break;
         };
         room -= grey.refs();
-        tally.count(&grey)?;
+        tally.count(&grey);
         items.push_reserved(RaceItem::Object(grey));
     }
     Ok(Packet {

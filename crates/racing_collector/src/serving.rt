@@ -1,7 +1,7 @@
 //! How a worker serves items. It keeps the targets of the roots that it served, and the tokens that
 //! it won.
 
-ghost use Rattle.std.specs.Prelude.{◌≡◌, ◌≢◌, ℕ, ◌+◌, ◌<◌, List, [], ◌∷◌, ◌++◌, All, IfOk, map, length, slice_index, vec_len, vec_capacity};
+ghost use Rattle.std.specs.Prelude.{◌≡◌, ◌≢◌, ℕ, ◌+◌, ◌<◌, ◌≤◌, List, [], ◌∷◌, ◌++◌, All, IfOk, map, length, slice_index, vec_len, vec_capacity};
 ghost use Rattle.object_model.specs.Objects.{IsHeld};
 ghost use Rattle.object_model.specs.Times.{times};
 ghost use Rattle.trace_table.specs.Seats.{IsGlobalRoot, IsGrey, IsTable, setup_at};
@@ -9,6 +9,7 @@ ghost use Rattle.trace_table.specs.declared.tokens.Grey.{Grey};
 ghost use Rattle.racing_collector.specs.declared.served.Served.{Served};
 ghost use Rattle.racing_collector.specs.Items.{IsItemOf, registers, tokens};
 ghost use Rattle.racing_collector.specs.Accounts.{Accounts, IsRacer, places, IsTargetOf};
+ghost use Rattle.racing_collector.specs.Working.{held_count};
 
 use crate::item::RaceItem;
 use crate::racing::Racing;
@@ -27,6 +28,17 @@ impl Racing {
                 self.table.look_ahead(grey);
             }
         }
+    }
+
+    /// Shows that a worker copied no more objects than were held as the trace began.
+    pub(crate) fn look_at_copies(&self, seat: &mut WorkerSeat)
+        requires racer { IsRacer self.now seat.old }
+        ensures racer { IsRacer self.now seat.new }
+        ensures same { seat.new.seat.me ≡ seat.old.seat.me }
+        ensures few { length seat.old.seat.me.0.copied
+            ≤ held_count (setup_at self.now.table) }
+    {
+        self.table.look_at_copies(seat);
     }
 
     /// Serves an item. All memory is reserved before a token is taken in or an object claimed.
@@ -48,6 +60,9 @@ impl Racing {
             ≡ seat.old.seat.me.0.took + tokens (item ∷ [])) }
         ensures gave { IfOk result (λ _. seat.new.seat.me.0.gave + length won.old.items
             ≡ seat.old.seat.me.0.gave + length won.new.items) }
+        ensures copied { IfOk result (λ _. length seat.new.seat.me.0.copied
+            + length won.old.items
+            ≡ length seat.old.seat.me.0.copied + length won.new.items) }
         ensures places { IfOk result (λ _. (i : ℕ) → times i (places served.new.items)
             ≡ times i (places served.old.items) + registers i (item ∷ [])) }
         ensures accounts { IfOk result (λ _. (greys : List Grey)
@@ -86,6 +101,9 @@ impl Racing {
         ensures took { IfOk result (λ _. seat.new.seat.me.0.took ≡ seat.old.seat.me.0.took) }
         ensures gave { IfOk result (λ _. seat.new.seat.me.0.gave + length won.old.items
             ≡ seat.old.seat.me.0.gave + length won.new.items) }
+        ensures copied { IfOk result (λ _. length seat.new.seat.me.0.copied
+            + length won.old.items
+            ≡ length seat.old.seat.me.0.copied + length won.new.items) }
         ensures places { IfOk result (λ _. places served.new.items
             ≡ places served.old.items ++ place ∷ []) }
         ensures accounts { IfOk result (λ _. (greys : List Grey)
@@ -116,6 +134,8 @@ impl Racing {
         ensures took { seat.new.seat.me.0.took ≡ seat.old.seat.me.0.took }
         ensures gave { seat.new.seat.me.0.gave + length won.old.items
             ≡ seat.old.seat.me.0.gave + length won.new.items }
+        ensures copied { length seat.new.seat.me.0.copied + length won.old.items
+            ≡ length seat.old.seat.me.0.copied + length won.new.items }
         ensures target { IsTargetOf seat.new.seat.me.0 root result }
         ensures asked { 0 < times root seat.new.seat.me.0.asked }
         ensures accounts { (greys : List Grey) (served : List Served)
@@ -123,14 +143,8 @@ impl Racing {
             → Accounts self.now seat.new.seat.me.0 served (greys ++ won.new.items) }
     {
         match self.table.claim(seat, root) {
-            Claim::Old => {
-                self.table.ask(seat, root, root);
-                root
-            }
-            Claim::Seen(target) => {
-                self.table.ask(seat, root, target);
-                target
-            }
+            Claim::Old => root,
+            Claim::Seen(target) => target,
             Claim::Won(object) => {
                 let grey = self.table.copy(seat, object);
                 let target = grey.at();
@@ -156,6 +170,9 @@ impl Racing {
             ≡ seat.old.seat.me.0.took + 1) }
         ensures gave { IfOk result (λ _. seat.new.seat.me.0.gave + length won.old.items
             ≡ seat.old.seat.me.0.gave + length won.new.items) }
+        ensures copied { IfOk result (λ _. length seat.new.seat.me.0.copied
+            + length won.old.items
+            ≡ length seat.old.seat.me.0.copied + length won.new.items) }
         ensures accounts { IfOk result (λ _. (greys : List Grey) (served : List Served)
             → Accounts self.now seat.old.seat.me.0 served (greys ++ won.old.items)
             → Accounts self.now seat.new.seat.me.0 served (greys ++ won.new.items)) }
@@ -181,6 +198,9 @@ impl Racing {
             ≡ seat.old.seat.me.0.took + 1) }
         ensures gave { IfOk result (λ _. seat.new.seat.me.0.gave + length won.old.items
             ≡ seat.old.seat.me.0.gave + length won.new.items) }
+        ensures copied { IfOk result (λ _. length seat.new.seat.me.0.copied
+            + length won.old.items
+            ≡ length seat.old.seat.me.0.copied + length won.new.items) }
         ensures accounts { IfOk result (λ _. (greys : List Grey) (served : List Served)
             → Accounts self.now seat.old.seat.me.0 served (greys ++ won.old.items)
             → Accounts self.now seat.new.seat.me.0 served (greys ++ won.new.items)) }

@@ -1,10 +1,9 @@
 //! Counts of the objects that a trace claims.
 
-ghost use Rattle.std.specs.Prelude.{◌≡◌, ◌+◌, ◌<◌, ◌^◌, IfOk};
+ghost use Rattle.std.specs.Prelude.{◌≡◌, ◌+◌, ◌-◌, ◌<◌, ◌^◌};
 ghost use Rattle.object_model.specs.Times.{one_if};
-ghost use Rattle.racing_collector.specs.Accounts.{has_moved};
+ghost use Rattle.racing_collector.specs.Accounts.{capped, has_moved};
 
-use std::alloc::AllocError;
 use trace_table::Grey;
 
 /// How many objects were claimed, how many of them moved, and their words.
@@ -29,17 +28,20 @@ impl Tally {
         }
     }
 
-    /// The count of objects fits its type.
+    /// Each count fits its type.
     pub(crate) fn known(self)
-        ensures { self.kept < 2 ^ 32 }
+        ensures kept { self.kept < 2 ^ 32 }
+        ensures moved { self.moved < 2 ^ 32 }
+        ensures words { self.words < 2 ^ 64 }
     {}
 
-    /// Counts the object of a token. Fails if a count does not fit its type, which no row allows.
-    pub(crate) fn count(&mut self, grey: &Grey) -> Result<(), AllocError>
-        ensures kept { IfOk result (λ _. self.new.kept ≡ self.old.kept + 1) }
-        ensures moved { IfOk result (λ _. self.new.moved
-            ≡ self.old.moved + one_if (has_moved grey.now)) }
-        ensures words { IfOk result (λ _. self.new.words ≡ self.old.words + grey.now.size) }
+    /// Counts the object of a token.
+    pub(crate) fn count(&mut self, grey: &Grey)
+        ensures kept { self.new.kept ≡ capped (2 ^ 32 - 1) (self.old.kept + 1) }
+        ensures moved { self.new.moved
+            ≡ capped (2 ^ 32 - 1) (self.old.moved + one_if (has_moved grey.now)) }
+        ensures words { self.new.words
+            ≡ capped (2 ^ 64 - 1) (self.old.words + grey.now.size) }
     {
         let moved = grey.has_moved() as u32;
         self.add(&Tally {
@@ -49,24 +51,16 @@ impl Tally {
         })
     }
 
-    /// Counts what another tally counted. Fails if a count does not fit its type.
-    pub(crate) fn add(&mut self, other: &Tally) -> Result<(), AllocError>
-        ensures kept { IfOk result (λ _. self.new.kept ≡ self.old.kept + other.now.kept) }
-        ensures moved { IfOk result (λ _. self.new.moved ≡ self.old.moved + other.now.moved) }
-        ensures words { IfOk result (λ _. self.new.words ≡ self.old.words + other.now.words) }
+    /// Counts what another tally counted.
+    pub(crate) fn add(&mut self, other: &Tally)
+        ensures kept { self.new.kept ≡ capped (2 ^ 32 - 1) (self.old.kept + other.now.kept) }
+        ensures moved { self.new.moved
+            ≡ capped (2 ^ 32 - 1) (self.old.moved + other.now.moved) }
+        ensures words { self.new.words
+            ≡ capped (2 ^ 64 - 1) (self.old.words + other.now.words) }
     {
-        let Some(kept) = self.kept.checked_add(other.kept) else {
-            return Err(AllocError);
-        };
-        let Some(moved) = self.moved.checked_add(other.moved) else {
-            return Err(AllocError);
-        };
-        let Some(words) = self.words.checked_add(other.words) else {
-            return Err(AllocError);
-        };
-        self.kept = kept;
-        self.moved = moved;
-        self.words = words;
-        Ok(())
+        self.kept = self.kept.saturating_add(other.kept);
+        self.moved = self.moved.saturating_add(other.moved);
+        self.words = self.words.saturating_add(other.words);
     }
 }

@@ -33,14 +33,14 @@ impl<'t, G: Gate> PacketWorker<RaceItem> for RacingWorker<'t, G> {
 
     type Start = ();
 
-    ghost use Rattle.std.specs.Prelude.{◌≡◌, ◌+◌, ◌-◌, ◌^◌, ◌≤◌, ◌∷◌, ◌++◌, [], List, All, IfOk, length};
+    ghost use Rattle.std.specs.Prelude.{◌≡◌, ◌+◌, ◌≤◌, ◌∷◌, ◌++◌, [], List, All, IfOk, length};
     ghost use Rattle.work_packets.specs.Buckets.{IsSameOrLater};
     ghost use Rattle.work_packets.specs.Packets.{HasItems};
     ghost use Rattle.work_packets.specs.Awaiting.{AwaitsAll};
     ghost use Rattle.work_packets.specs.declared.packet.Packet.{Packet};
     ghost use Rattle.racing_collector.specs.declared.item.RaceItem.{RaceItem};
     ghost use Rattle.racing_collector.specs.Items.{IsPacketOf};
-    ghost use Rattle.racing_collector.specs.Working.{RunsPacket, worked};
+    ghost use Rattle.racing_collector.specs.Working.{RunsPacket, uncopied, worked};
 
     ghost home = { λ w. w.racing.now };
 
@@ -50,7 +50,7 @@ impl<'t, G: Gate> PacketWorker<RaceItem> for RacingWorker<'t, G> {
         (worked w.seat.seat.me.0 w.served.items w.tally) p q
         (worked v.seat.seat.me.0 v.served.items v.tally) };
 
-    ghost left = { λ w. 2 ^ 32 - 1 - w.tally.kept };
+    ghost left = { λ w. uncopied w.racing.now w.seat.seat.me.0 };
 
     ghost awaits = { λ start w ps. Unit {0} };
 
@@ -70,8 +70,9 @@ impl<'t, G: Gate> PacketWorker<RaceItem> for RacingWorker<'t, G> {
             (worked self.old.seat.seat.me.0 self.old.served.items self.old.tally) p
             pushed.new.items
             (worked self.new.seat.seat.me.0 self.new.served.items self.new.tally)) }
-        ensures left { IfOk result (λ _. 2 ^ 32 - 1 - self.new.tally.kept
-            + length pushed.new.items ≤ 2 ^ 32 - 1 - self.old.tally.kept) }
+        ensures left { IfOk result (λ _. uncopied self.new.racing.now self.new.seat.seat.me.0
+            + length pushed.new.items
+            ≤ uncopied self.old.racing.now self.old.seat.seat.me.0) }
         ensures takes { IfOk result
             (λ _. All (IsPacketOf self.old.racing.now) pushed.new.items) }
         ensures items { IfOk result (λ _. All HasItems pushed.new.items) }
@@ -93,9 +94,9 @@ impl<'t, G: Gate> PacketWorker<RaceItem> for RacingWorker<'t, G> {
             self.gate.pass(self.who, Point::Claimed);
         }
         hand_on(alloc, &mut self.tally, &mut won, pushed)?;
-        // So what is left falls by the packets that were pushed.
-        self.tally.known();
         self.won = won;
+        // So what is left to copy falls by the packets that were pushed.
+        self.racing.look_at_copies(&mut self.seat);
         Ok(())
     }
 }

@@ -1,10 +1,11 @@
 //! The workers of a trace, as it begins and as it ends.
 
-ghost use Rattle.std.specs.Prelude.{◌≡◌, [], All, IfOk, map};
+ghost use Rattle.std.specs.Prelude.{◌≡◌, ◌-◌, ◌^◌, [], All, IfOk, map};
 ghost use Rattle.std.specs.List.{flat_map, sum_by};
 ghost use Rattle.object_model.specs.Lawful.{AreRoots};
 ghost use Rattle.trace_table.specs.Ends.{NewSeats};
 ghost use Rattle.trace_table.specs.Seats.{IsTable, setup_at};
+ghost use Rattle.racing_collector.specs.Accounts.{capped};
 
 use crate::raced::Raced;
 use crate::racing::Racing;
@@ -60,11 +61,12 @@ pub(crate) fn dismiss<'t, G: Gate>(
     ensures seats { IfOk result (λ r. r.seats.items ≡ map (λ w. w.seat) workers.entry.items) }
     ensures served { IfOk result (λ r. r.served.items
         ≡ flat_map (λ w. w.served.items) workers.entry.items) }
-    ensures kept { IfOk result (λ r. r.tally.kept ≡ sum_by (λ w. w.tally.kept) workers.entry.items) }
+    ensures kept { IfOk result (λ r. r.tally.kept
+        ≡ capped (2 ^ 32 - 1) (sum_by (λ w. w.tally.kept) workers.entry.items)) }
     ensures moved { IfOk result (λ r. r.tally.moved
-        ≡ sum_by (λ w. w.tally.moved) workers.entry.items) }
+        ≡ capped (2 ^ 32 - 1) (sum_by (λ w. w.tally.moved) workers.entry.items)) }
     ensures words { IfOk result (λ r. r.tally.words
-        ≡ sum_by (λ w. w.tally.words) workers.entry.items) }
+        ≡ capped (2 ^ 64 - 1) (sum_by (λ w. w.tally.words) workers.entry.items)) }
 {
     let mut seats = Vec::new(alloc);
     let mut served = Vec::new(alloc);
@@ -78,7 +80,7 @@ pub(crate) fn dismiss<'t, G: Gate>(
         } = worker;
         seats.push(seat)?;
         served.append(&mut more)?;
-        tally.add(&counts)?;
+        tally.add(&counts);
     }
     Ok(Raced {
         seats,

@@ -1,5 +1,5 @@
 -- The share of a seat that scans an object.
-use Rattle.std.proofs.Common.{◌≡◌, ◌≢◌, ℕ, ◌+◌, ◌<◌, ◌≤◌, ◌^◌, ◌⊎◌, inl, inr, nat_eq, List, [], ◌∷◌, ◌++◌, length-append, append-nil, append_assoc, map, refl, sym, ap, ◌∙◌, subst, subst₂, arith}
+use Rattle.std.proofs.Common.{◌≡◌, ◌≢◌, ℕ, ◌+◌, ◌<◌, ◌≤◌, ◌^◌, ◌⊎◌, inl, inr, nat_eq, List, [], ◌∷◌, ◌++◌, length, length-append, append-nil, append_assoc, map, refl, sym, ap, ◌∙◌, subst, subst₂, arith}
 use Rattle.std.proofs.lemmas.List.Elements.{All-nil, All-cons, All-append, All-weaker}
 use Rattle.std.proofs.lemmas.Bool.{cases_Bool, cases_eq}
 use Rattle.object_model.specs.Objects.{IsHeld, ref_at}
@@ -52,6 +52,7 @@ pushes-none v w out looks = record {
   targets = All-nil (λ g. 0 < hits g.object g.target w.known);
   out = sym (append-nil out);
   gave = (let a = looks.gave in omega arith);
+  many = (let a : length w.copied ≡ length v.copied = ap length looks.copied in omega arith);
   copied = λ x. (let a : times x w.copied ≡ times x v.copied = ap (times x) looks.copied in omega arith);
   asked = looks.asked;
 }
@@ -76,6 +77,7 @@ follows-won p r cause none v w u token out out' grey wins copies object target p
         (subst₂ (λ x t. 0 < hits x t u.known) (sym (object ∙ wins.object)) (sym target) (copies.keeps.known r token.target wins.target)) (All-nil (λ g. 0 < hits g.object g.target u.known));
     out = pushed;
     gave = (let a = wins.gave in let b = copies.gave in omega arith);
+    many = (let a : length w.copied ≡ length v.copied = ap length wins.copied in let b : length u.copied ≡ length (token.object ∷ w.copied) = ap length copies.copied in omega arith);
     copied = λ x. (let a = times-cons token.object w.copied x in let b = times-cons grey.object [] x in let c : times x u.copied ≡ times x (token.object ∷ w.copied) = ap (times x) copies.copied in
         let d : times x w.copied ≡ times x v.copied = ap (times x) wins.copied in let e : one_if (nat_eq x grey.object) ≡ one_if (nat_eq x token.object) = ap (λ n. one_if (nat_eq x n)) object in omega arith);
     asked = copies.asked ∙ wins.asked ∙ none v.asked;
@@ -95,6 +97,7 @@ pushes-trans u v w a b c p q = record {
       (All-weaker (λ g. 0 < hits g.object g.target v.known) (λ g. 0 < hits g.object g.target w.known) (λ g has. q.keeps.known g.object g.target has) p.pushed p.targets) q.targets;
   out = q.out ∙ ap (λ l. l ++ q.pushed) p.out ∙ append_assoc a p.pushed q.pushed;
   gave = (let d = p.gave in let e = q.gave in let f = length-append p.pushed q.pushed in omega arith);
+  many = (let d = p.many in let e = q.many in let f = length-append p.pushed q.pushed in omega arith);
   copied = λ x. (let d = p.copied x in let e = q.copied x in let f : times x (objects (p.pushed ++ q.pushed)) ≡ times x (objects p.pushed ++ objects q.pushed) = ap (times x) (objects-append p.pushed q.pushed) in
       let g = count-append (nat_eq x) (objects p.pushed) (objects q.pushed) in omega arith);
   asked = q.asked ∙ p.asked;
@@ -108,6 +111,7 @@ pushes-scanned x k v w u a b p is = subst (λ (z : Share). Pushes v z a b) (sym 
   targets = p.targets;
   out = p.out;
   gave = p.gave;
+  many = p.many;
   copied = p.copied;
   asked = p.asked;
 })
@@ -182,6 +186,7 @@ module _ (p : Setup) (x t : ℕ) (v : Share) where
       targets = All-nil (λ g. 0 < hits g.object g.target both.known);
       out = sym (append-nil out);
       gave = omega arith;
+      many = length-append v.copied [];
       copied = λ y. (let a = count-append (nat_eq y) v.copied [] in omega arith);
       asked = append-nil v.asked;
     };

@@ -1,5 +1,5 @@
 -- The share of a seat that sets a global.
-use Rattle.std.proofs.Common.{◌≡◌, ◌≢◌, ℕ, ◌+◌, ◌<◌, nat_eq, List, [], ◌∷◌, ◌++◌, append-nil, refl, sym, ap, ◌∙◌, subst, arith}
+use Rattle.std.proofs.Common.{◌≡◌, ◌≢◌, ℕ, ◌+◌, ◌<◌, nat_eq, List, [], ◌∷◌, ◌++◌, length-append, append-nil, refl, sym, ap, ◌∙◌, subst, arith}
 use Rattle.std.proofs.lemmas.Bool.{cond-true, eq-eqb}
 use Rattle.object_model.specs.Objects.{IsHeld, global_at}
 use Rattle.object_model.specs.Times.{times, one_if}
@@ -65,6 +65,7 @@ module _ (p : Setup) (g : ℕ) where
           targets = from.pushes.targets;
           out = from.pushes.out;
           gave = (let c = from.pushes.gave in omega arith);
+          many = (let c = from.pushes.many in let d = length-append v.copied [] in omega arith);
           copied = λ x. (let c = from.pushes.copied x in let d = count-append (nat_eq x) v.copied [] in omega arith);
           asked = from.pushes.asked ∙ append-nil v.asked;
         };

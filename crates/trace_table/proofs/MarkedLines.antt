@@ -11,7 +11,7 @@ use Rattle.trace_core.specs.Views.{hits}
 use Rattle.trace_core.proofs.CountedRights.{hits-here, hits-more}
 use Rattle.trace_words.specs.declared.share.Share.{Share}
 use Rattle.trace_words.specs.Rule.{HasLined}
-use Rattle.trace_words.specs.Shares.{sets_lines}
+use Rattle.trace_words.specs.Shares.{sees_lines, sets_lines}
 use Rattle.trace_words.specs.Steps.{MayMark}
 use Rattle.trace_table.specs.declared.tokens.Grey.{Grey}
 use Rattle.trace_table.specs.Seats.{Keeps, Looks, SameRoom, Scans}
@@ -30,6 +30,21 @@ looks-lined x word mask v w is = subst (Looks v) (sym is) (record {
 
 pub room-lined : (x word mask : ℕ) (v w : Share) → w ≡ sets_lines x word mask v → SameRoom v w
 room-lined x word mask v w is = subst (SameRoom v) (sym is) (record { parts = refl; worker = refl; front = refl; limit = refl; filling = refl })
+
+-- a look at line bits
+pub looks-seen : (word found : ℕ) (v w : Share) → w ≡ sees_lines word found v → Looks v w
+looks-seen word found v w is = subst (Looks v) (sym is) (record {
+  keeps = record { parts = refl; token = refl; worker = refl; numbers = refl; unset = refl; last = refl; known = λ y t has. has; lined = λ i m has. hits-more word found v.lined i m has; busy = λ c has. has; sparse = refl };
+  gave = refl;
+  took = refl;
+  won = refl;
+  grey = refl;
+  copied = refl;
+  asked = refl;
+})
+
+pub room-seen : (word found : ℕ) (v w : Share) → w ≡ sees_lines word found v → SameRoom v w
+room-seen word found v w is = subst (SameRoom v) (sym is) (record { parts = refl; worker = refl; front = refl; limit = refl; filling = refl })
 
 -- lines that were marked stay so
 pub lined-on : (p : Setup) (v w : Share) (line : ℕ) → Keeps v w → HasLined p v line → HasLined p w line
@@ -52,13 +67,14 @@ module _ (p : Setup) (x t from to : ℕ) (start : heap_of (blocks p) ≤ t) (wit
       ));
     }
 
-  -- all of its lines in a word are
-  pub lined-word : (v w : Share) (word low high at mask : ℕ) → at ≡ first (blocks p) LineWords + word → low ≡ from - 64 * word → ((k : ℕ) → k ≤ 63 → k ≤ to - 64 * word → k ≤ high)
-      → ((k : ℕ) → IsFromTo low high k → bit_at mask k ≡ 1) → w ≡ sets_lines x at mask v → (line : ℕ) → from ≤ line → line ≤ to → line / 64 ≡ word → HasLined p w line
-  lined-word v w word low high at mask at-is low-is high-is inside is line least most here = subst (λ (u : Share). HasLined p u line) (sym is) (
+  -- all of its lines in a word are, if those of a mask are known to be
+  pub lined-word : (l : List (ℕ × ℕ)) (w : Share) (word low high at mask : ℕ) → at ≡ first (blocks p) LineWords + word → low ≡ from - 64 * word → ((k : ℕ) → k ≤ 63 → k ≤ to - 64 * word → k ≤ high)
+      → ((k : ℕ) → IsFromTo low high k → bit_at mask k ≡ 1) → w.lined ≡ (at, mask) ∷ l → (line : ℕ) → from ≤ line → line ≤ to → line / 64 ≡ word → HasLined p w line
+  lined-word l w word low high at mask at-is low-is high-is inside is line least most here = (
     mask,
     inside (line % 64) (record { after = omega arith; most = high-is (line % 64) (omega arith) (omega arith) }),
-    subst (λ i. 0 < hits i mask ((at, mask) ∷ v.lined)) (at-is ∙ ap (λ n. first (blocks p) LineWords + n) (sym here)) (hits-here at mask v.lined),
+    subst (λ m. 0 < hits (first (blocks p) LineWords + line / 64) mask m) (sym is)
+        (subst (λ i. 0 < hits i mask ((at, mask) ∷ l)) (at-is ∙ ap (λ n. first (blocks p) LineWords + n) (sym here)) (hits-here at mask l)),
   )
 
   -- a line that it touches is one of these

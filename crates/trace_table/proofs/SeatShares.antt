@@ -1,12 +1,13 @@
 -- What steps do to the share of a worker's seat.
-use Rattle.std.proofs.Common.{◌≡◌, ℕ, false, true≢false, ◌&&◌, ◌+◌, ◌<◌, ◌≤◌, inl, inr, nat_eq, [], ◌∷◌, refl, sym, ap, ◌∙◌, subst, arith}
+use Rattle.std.proofs.Common.{◌≡◌, ℕ, false, IsTrue, true≢false, ◌&&◌, ◌+◌, ◌<◌, ◌≤◌, inl, inr, nat_eq, [], ◌∷◌, refl, sym, ap, ◌∙◌, subst, arith}
 use Rattle.std.proofs.lemmas.Bool.{cases_eq, cases_Bool, and_parts, cond-true, eq-eqb, ne_eqb}
+use Rattle.heap_layout.specs.Zones.{block_start}
 use Rattle.object_model.specs.Times.{times, one_if}
 use Rattle.forward_word.specs.CollectorWords.{is_old_word}
 use Rattle.object_model.specs.Ages as ages
 use Rattle.object_model.specs.Objects.{word_at}
 use Rattle.trace_core.specs.Outcomes.{base_after_trace}
-use Rattle.trace_core.specs.Setups.{Setup, blocks, collection, held, stays_old}
+use Rattle.trace_core.specs.Setups.{Setup, blocks, collection, held, size, stays_old, may_be_moved}
 use Rattle.trace_core.specs.Machine.{ClaimCause, ByRoot, ByGlobal, ByField}
 use Rattle.trace_core.specs.Views.{hits, steps_at_claim, asked_roots}
 use Rattle.trace_core.proofs.CountedRights.{hits-here, hits-more, times-cons}
@@ -14,7 +15,7 @@ use Rattle.trace_core.proofs.Idle.{one-if-true}
 use Rattle.trace_words.specs.declared.share.Share.{Share}
 use Rattle.trace_words.specs.Rule.{SeatShare}
 use Rattle.trace_words.specs.Shares.{learns, sees_busy, claims_here, claims_moved, asks_for}
-use Rattle.trace_words.specs.Steps.{MayClaim, AsksFor, IsDone}
+use Rattle.trace_words.specs.Steps.{MayClaim, LacksRoom, FitsRoom, AsksFor, IsDone}
 use Rattle.trace_table.specs.declared.table.TraceTable.{TraceTable}
 use Rattle.trace_table.specs.declared.table.WorkerSeat.{WorkerSeat}
 use Rattle.trace_table.specs.declared.tokens.Claim.{Claim}
@@ -46,6 +47,32 @@ seat-on t s s' is table worker front limit room seen next = record {
   filling = λ c has. limit ∙ is.filling c (subst (λ l. 0 < times c l) room.filling has);
   seen = seen;
   next = next;
+}
+
+pub only-one : (b k : ℕ) → 0 < times k (b ∷ []) → b ≡ k
+only-one b k has = elim (cases_eq k b) as (λ _. b ≡ k) [
+  | inl e ↦ sym e
+  | inr ne ↦ absurd (let a = times-cons b [] k in let zero-times : one_if (nat_eq k b) ≡ 0 = ap one_if (ne_eqb k b ne) in omega arith)
+]
+
+-- a seat that took block b
+pub seat-taken : (t : TraceTable) (s s' : WorkerSeat) (b : ℕ) → b < blocks (setup_at t) → IsSeat t s → s'.seat.table_id ≡ s.seat.table_id → s'.worker ≡ s.worker → s'.next_block ≡ s.next_block
+    → s'.front ≡ block_start (blocks (setup_at t)) b → s'.limit ≡ block_start (blocks (setup_at t)) b + 4096 → s'.seat.me.0.parts ≡ s.seat.me.0.parts → s'.seat.me.0.worker ≡ s.seat.me.0.worker
+    → s'.seat.me.0.front ≡ block_start (blocks (setup_at t)) b → s'.seat.me.0.limit ≡ block_start (blocks (setup_at t)) b + 4096 → s'.seat.me.0.filling ≡ b ∷ [] → s'.seat.me.0.busy ≡ s.seat.me.0.busy → IsSeat t s'
+seat-taken t s s' b inside is table worker next front limit parts number room-front room-limit filling busy = let n : ℕ = blocks (setup_at t) in record {
+  table = table ∙ is.table;
+  live = (let a = is.live in omega arith);
+  worker = worker ∙ is.worker ∙ sym number;
+  some = (let a = is.some in omega arith);
+  few = (let a = is.few in omega arith);
+  front = front ∙ sym room-front;
+  limit = limit ∙ sym room-limit;
+  order = omega arith;
+  from = λ below. omega arith;
+  within = omega arith;
+  filling = λ k has. limit ∙ ap (λ c. block_start n c + 4096) (only-one b k (subst (λ l. 0 < times k l) filling has));
+  seen = λ k below. subst (λ l. 0 < times k l) (sym busy) (is.seen k (omega arith));
+  next = (let a = is.next in omega arith);
 }
 
 -- one block more is seen not to be Free
@@ -87,8 +114,31 @@ looks-trans u v w a b = record {
   asked = b.asked ∙ a.asked;
 }
 
+pub room-not : (v : Share) → SameRoom v v
+room-not v = record { parts = refl; worker = refl; front = refl; limit = refl; filling = refl }
+
+pub room-trans : (u v w : Share) → SameRoom u v → SameRoom v w → SameRoom u w
+room-trans u v w a b = record {
+  parts = b.parts ∙ a.parts;
+  worker = b.worker ∙ a.worker;
+  front = b.front ∙ a.front;
+  limit = b.limit ∙ a.limit;
+  filling = b.filling ∙ a.filling;
+}
+
 pub room-busy : (b : ℕ) (v w : Share) → w ≡ sees_busy b v → SameRoom v w
 room-busy b v w is = same-room v (sees_busy b v) w is (record { parts = refl; worker = refl; front = refl; limit = refl; filling = refl })
+
+pub looks-busy : (b : ℕ) (v w : Share) → w ≡ sees_busy b v → Looks v w
+looks-busy b v w is = subst (Looks v) (sym is) (record {
+  keeps = record { parts = refl; token = refl; worker = refl; numbers = refl; unset = refl; last = refl; known = λ x t has. has; lined = λ i m has. has; busy = λ c has. (let a = times-cons b v.busy c in omega arith); sparse = refl };
+  gave = refl;
+  took = refl;
+  won = refl;
+  grey = refl;
+  copied = refl;
+  asked = refl;
+})
 
 -- a target is learnt
 pub looks-learnt : (x t : ℕ) (v w : Share) → w ≡ learns x t v → Looks v w × (0 < hits x t w.known)
@@ -109,8 +159,8 @@ pub room-learnt : (x t : ℕ) (v w : Share) → w ≡ learns x t v → SameRoom 
 room-learnt x t v w is = same-room v (learns x t v) w is (record { parts = refl; worker = refl; front = refl; limit = refl; filling = refl })
 
 -- an object is claimed where it is
-pub wins-here : (p : Setup) (x : ℕ) (cause : ClaimCause) (v w : Share) (token : Won) → w ≡ claims_here p x cause v → v.won ≡ [] → token.object ≡ x → token.target ≡ x → IsShapeOf p token → Wins p x cause v w token
-wins-here p x cause v w token is spent object target shape = subst (λ (u : Share). Wins p x cause v u token) (sym is) (record {
+pub wins-here : (p : Setup) (x : ℕ) (cause : ClaimCause) (v w : Share) (token : Won) → w ≡ claims_here p x cause v → v.won ≡ [] → token.object ≡ x → token.target ≡ x → (IsTrue (may_be_moved p x) → LacksRoom p v x) → IsShapeOf p token → Wins p x cause v w token
+wins-here p x cause v w token is spent object target lacks shape = subst (λ (u : Share). Wins p x cause v u token) (sym is) (record {
   keeps = record { parts = refl; token = refl; worker = refl; numbers = refl; unset = refl; last = refl; known = λ y u has. hits-more x x v.known y u has; lined = λ i m has. has; busy = λ c has. has; sparse = refl };
   gave = refl;
   took = refl;
@@ -119,6 +169,7 @@ wins-here p x cause v w token is spent object target shape = subst (λ (u : Shar
   copied = refl;
   asked = refl;
   target = subst (λ n. 0 < hits x n ((x, x) ∷ v.known)) (sym target) (hits-here x x v.known);
+  place = inl (target, λ moves. (let room = lacks moves in record { tight = room.tight; none = room.none }));
   object = object;
   shape = shape;
 })
@@ -127,8 +178,8 @@ pub room-here : (p : Setup) (x : ℕ) (cause : ClaimCause) (v w : Share) → w �
 room-here p x cause v w is = same-room v (claims_here p x cause v) w is (record { parts = refl; worker = refl; front = refl; limit = refl; filling = refl })
 
 -- an object is claimed for the front of the room
-pub wins-moved : (p : Setup) (x : ℕ) (cause : ClaimCause) (v w : Share) (token : Won) → w ≡ claims_moved p x cause v → v.won ≡ [] → token.object ≡ x → token.target ≡ v.front → IsShapeOf p token → Wins p x cause v w token
-wins-moved p x cause v w token is spent object target shape = subst (λ (u : Share). Wins p x cause v u token) (sym is) (record {
+pub wins-moved : (p : Setup) (x : ℕ) (cause : ClaimCause) (v w : Share) (token : Won) → w ≡ claims_moved p x cause v → v.won ≡ [] → token.object ≡ x → token.target ≡ v.front → FitsRoom p v x → IsShapeOf p token → Wins p x cause v w token
+wins-moved p x cause v w token is spent object target room shape = subst (λ (u : Share). Wins p x cause v u token) (sym is) (record {
   keeps = record { parts = refl; token = refl; worker = refl; numbers = refl; unset = refl; last = refl; known = λ y u has. hits-more x v.front v.known y u has; lined = λ i m has. has; busy = λ c has. has; sparse = refl };
   gave = refl;
   took = refl;
@@ -137,6 +188,7 @@ wins-moved p x cause v w token is spent object target shape = subst (λ (u : Sha
   copied = refl;
   asked = refl;
   target = subst (λ n. 0 < hits x n ((x, v.front) ∷ v.known)) (sym target) (hits-here x v.front v.known);
+  place = inr (record { moves = room.moves; front = ap (λ n. n + size p x) (sym target); fits = room.fits });
   object = object;
   shape = shape;
 })
@@ -157,12 +209,6 @@ claim-on p v w x cause old looks may = record {
   asks = asks-on p v w x cause looks.keeps may.asks;
 }
 
-pub only-one : (b k : ℕ) → 0 < times k (b ∷ []) → b ≡ k
-only-one b k has = elim (cases_eq k b) as (λ _. b ≡ k) [
-  | inl e ↦ sym e
-  | inr ne ↦ absurd (let a = times-cons b [] k in let zero-times : one_if (nat_eq k b) ≡ 0 = ap one_if (ne_eqb k b ne) in omega arith)
-]
-
 -- a seat whose share is the same
 pub seat-same : (t : TraceTable) (s s' : WorkerSeat) → IsSeat t s → s'.seat.table_id ≡ s.seat.table_id → s'.worker ≡ s.worker → s'.front ≡ s.front → s'.limit ≡ s.limit → s'.next_block ≡ s.next_block
     → s'.seat.me ≡ s.seat.me → IsSeat t s'
@@ -179,8 +225,8 @@ seat-learnt t s s' x u is table worker front limit next learnt =
 
 -- a claim after more looks
 pub claims-after : (p : Setup) (x : ℕ) (cause : ClaimCause) (u v w : Share) (answer : Claim) → Looks u v → ClaimsFor p x cause v w answer → ClaimsFor p x cause u w answer
-claims-after p x cause u v w claims.Old looks by = (looks-trans u v w looks by.0, by.1)
-claims-after p x cause u v w (claims.Seen t) looks by = (looks-trans u v w looks by.0, by.1)
+claims-after p x cause u v w claims.Old looks by = (looks-trans u v w looks by.0, by.1, by.2)
+claims-after p x cause u v w (claims.Seen t) looks by = (looks-trans u v w looks by.0, by.1, by.2)
 claims-after p x cause u v w (claims.Won token) looks by = record {
   keeps = keeps-trans u v w looks.keeps by.keeps;
   gave = by.gave ∙ looks.gave;
@@ -190,6 +236,7 @@ claims-after p x cause u v w (claims.Won token) looks by = record {
   copied = by.copied ∙ looks.copied;
   asked = by.asked ∙ ap (asked_roots x cause) looks.asked;
   target = by.target;
+  place = by.place;
   object = by.object;
   shape = by.shape;
 }
@@ -224,3 +271,23 @@ asks-known x t v w is = subst (Asks x v) (sym is) (record {
 
 pub room-asked : (x t : ℕ) (v w : Share) → w ≡ asks_for x t v → SameRoom v w
 room-asked x t v w is = same-room v (asks_for x t v) w is (record { parts = refl; worker = refl; front = refl; limit = refl; filling = refl })
+
+-- a root asks after looks
+pub asks-after : (x : ℕ) (u v w : Share) → Looks u v → Asks x v w → Asks x u w
+asks-after x u v w looks asks = record {
+  keeps = keeps-trans u v w looks.keeps asks.keeps;
+  gave = asks.gave ∙ looks.gave;
+  took = asks.took ∙ looks.took;
+  won = asks.won ∙ looks.won;
+  grey = asks.grey ∙ looks.grey;
+  copied = asks.copied ∙ looks.copied;
+  asked = asks.asked ∙ ap (λ l. x ∷ l) looks.asked;
+}
+
+-- nothing is left to do after a root asked
+pub done-asked : (p : Setup) (x : ℕ) (v w : Share) → IsDone p v → Asks x v w → IsDone p w
+done-asked p x v w done asks = record {
+  won = asks.won ∙ done.won;
+  unset = asks.keeps.unset ∙ done.unset;
+  grey = λ y k some. done.grey y k (subst (λ g. 0 < hits y k g) asks.grey some);
+}

@@ -1,19 +1,20 @@
 -- A table, the seats of its workers and its tokens, and what calls do to the share of a seat.
-use Rattle.std.specs.Prelude.{◌≡◌, ◌≢◌, ℕ, ◌+◌, ◌<◌, ◌≤◌, ◌⊎◌, false, List, [], ◌∷◌, ◌++◌, All, length, map}
+use Rattle.std.specs.Prelude.{◌≡◌, ◌≢◌, ℕ, ◌+◌, ◌<◌, ◌≤◌, ◌⊎◌, false, IsTrue, List, [], ◌∷◌, ◌++◌, All, length, map}
 use Rattle.forward_word.specs.CollectorWords.{number_in, is_old_word}
 use Rattle.heap_layout.specs.Zones.{row_words, heap_of, block_start}
 use Rattle.heap_layout.specs.declared.layout.TheConstants.{BLOCK_WORDS, GLOBALS}
 use Rattle.object_model.specs.Objects.{IsHeld, word_at}
 use Rattle.object_model.specs.Times.{times}
 use Rattle.object_model.specs.declared.shape.TheConstants.{COLLECTOR_OFFSET}
-use Rattle.trace_core.specs.Setups.{Setup, TraceMayBegin, blocks, collection, size, refs, stays_old}
-use Rattle.trace_core.specs.Machine.{ClaimCause}
+use Rattle.trace_core.specs.Setups.{Setup, TraceMayBegin, blocks, collection, size, refs, stays_old, may_be_moved}
+use Rattle.trace_core.specs.Machine.{ClaimCause, ByRoot}
 use Rattle.trace_core.specs.Outcomes.{base_after_trace}
 use Rattle.trace_core.specs.Runs.{IsRunOf}
 use Rattle.trace_core.specs.Views.{hits, is_pair, without, steps_at_claim, asked_roots}
 use Rattle.trace_words.specs.declared.share.Share.{Share}
 use Rattle.trace_words.specs.Rule.{SeatShare, setup_in}
-use Rattle.trace_words.specs.Shares.{learns, ends_copy, sets_global, scan_token, global_token}
+use Rattle.trace_words.specs.Shares.{learns, ends_copy, sets_global, scan_token, global_token, takes_at_any_time}
+use Rattle.trace_words.specs.Steps.{LacksRoom}
 use Rattle.trace_table.specs.declared.table.TraceTable.{TraceTable}
 use Rattle.trace_table.specs.declared.table.WorkerSeat.{WorkerSeat}
 use Rattle.trace_table.specs.declared.tokens.Claim.{Claim}
@@ -56,10 +57,11 @@ pub record IsSeat (t : TraceTable) (s : WorkerSeat) : Type 0 where
   pub seen : (c : ℕ) → c < s.next_block → 0 < times c s.seat.me.0.busy
   pub next : s.next_block ≤ blocks (setup_at t)
 
--- a look at a collector word: it is old, it has its target, or it was not claimed
+-- a look at the collector word of an object: it stays as an old one, is not old and has its
+-- target, or was not claimed
 abbrev pub Finds : Setup → ℕ → SeatShare → Found → SeatShare → Type 0
-Finds p x me found.Old now = now ≡ (learns x x me.0, me.1)
-Finds p x me (found.Seen t) now = now ≡ (learns x t me.0, me.1)
+Finds p x me found.Old now = IsTrue (stays_old p x) × (now ≡ (learns x x me.0, me.1))
+Finds p x me (found.Seen t) now = (stays_old p x ≡ false) × (now ≡ (learns x t me.0, me.1))
 Finds p x me (found.Waits word) now = (now ≡ me)
     × (word ≡ word_at p.before (x + COLLECTOR_OFFSET))
     × (number_in word ≢ collection p) × (is_old_word (base_after_trace p) word ≡ false)
@@ -95,6 +97,14 @@ pub record SameRoom (v w : Share) : Type 0 where
   pub limit : w.limit ≡ v.limit
   pub filling : w.filling ≡ v.filling
 
+-- The share took block b to copy into, after it had looked at those before, which are not Free.
+pub record TakesLowest (p : Setup) (v w : Share) (b : ℕ) : Type 0 where
+  pub before : Share
+  pub looks : Looks v before
+  pub room : SameRoom v before
+  pub taken : w ≡ takes_at_any_time p b before
+  pub lowest : (c : ℕ) → c < b → 0 < times c w.busy
+
 -- the token has the shape of an object that is not old, and a target with room for it
 pub record IsShapeOf (p : Setup) (token : Won) : Type 0 where
   pub held : IsHeld p.before token.object
@@ -103,6 +113,17 @@ pub record IsShapeOf (p : Setup) (token : Won) : Type 0 where
   pub refs : token.refs ≡ refs p token.object
   pub start : heap_of (blocks p) ≤ token.target
   pub within : token.target + token.size ≤ row_words (blocks p)
+
+-- the object at x is its own target, since it may not move or lacks room
+abbrev pub StaysInPlace : Setup → ℕ → Share → Won → Type 0
+StaysInPlace p x w token =
+    (token.target ≡ x) × (IsTrue (may_be_moved p x) → LacksRoom p w x)
+
+-- its target is where the room began, which has its words
+pub record MovesToFront (p : Setup) (x : ℕ) (w : Share) (token : Won) : Type 0 where
+  pub moves : IsTrue (may_be_moved p x)
+  pub front : w.front ≡ token.target + size p x
+  pub fits : w.front ≤ w.limit
 
 -- The claim gave the object at x its target.
 pub record Wins (p : Setup) (x : ℕ) (cause : ClaimCause) (v w : Share) (token : Won) : Type 0 where
@@ -114,6 +135,7 @@ pub record Wins (p : Setup) (x : ℕ) (cause : ClaimCause) (v w : Share) (token 
   pub copied : w.copied ≡ v.copied
   pub asked : w.asked ≡ asked_roots x cause v.asked
   pub target : 0 < hits x token.target w.known
+  pub place : StaysInPlace p x w token ⊎ MovesToFront p x w token
   pub object : token.object ≡ x
   pub shape : IsShapeOf p token
 
@@ -163,11 +185,22 @@ pub record Copies (x : ℕ) (v w : Share) : Type 0 where
   pub copied : w.copied ≡ x ∷ v.copied
   pub asked : w.asked ≡ v.asked
 
--- a claim: the object is old, or has its target, which is known, or got it
+-- A claim: the object stays as an old one, or is not old and has its target, which is known, or it
+-- got its target.
 abbrev pub ClaimsFor : Setup → ℕ → ClaimCause → Share → Share → Claim → Type 0
-ClaimsFor p x cause v w claims.Old = Looks v w × (0 < hits x x w.known)
-ClaimsFor p x cause v w (claims.Seen t) = Looks v w × (0 < hits x t w.known)
+ClaimsFor p x cause v w claims.Old =
+    Looks v w × (0 < hits x x w.known) × IsTrue (stays_old p x)
+ClaimsFor p x cause v w (claims.Seen t) =
+    Looks v w × (0 < hits x t w.known) × (stays_old p x ≡ false)
 ClaimsFor p x cause v w (claims.Won won) = Wins p x cause v w won
+
+-- A claim for a root, which asks for an object that has its target.
+abbrev pub ClaimsRoot : Setup → ℕ → Share → Share → Claim → Type 0
+ClaimsRoot p x v w claims.Old =
+    Asks x v w × (0 < hits x x w.known) × IsTrue (stays_old p x)
+ClaimsRoot p x v w (claims.Seen t) =
+    Asks x v w × (0 < hits x t w.known) × (stays_old p x ≡ false)
+ClaimsRoot p x v w (claims.Won won) = Wins p x ByRoot v w won
 
 -- the token is the right to scan an object
 pub record IsGrey (t : TraceTable) (g : Grey) : Type 0 where
@@ -191,6 +224,7 @@ pub record Pushes (v w : Share) (before after : List Grey) : Type 0 where
   pub pushed : List Grey
   pub out : after ≡ before ++ pushed
   pub gave : w.gave ≡ v.gave + length pushed
+  pub many : length w.copied ≡ length v.copied + length pushed
   pub copied : (x : ℕ) → times x w.copied ≡ times x (map (λ g. g.object) pushed) + times x v.copied
   pub targets : All (λ g. 0 < hits g.object g.target w.known) pushed
   pub asked : w.asked ≡ v.asked

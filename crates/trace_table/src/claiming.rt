@@ -6,7 +6,7 @@ ghost use Rattle.trace_core.specs.Machine.{ByRoot};
 ghost use Rattle.trace_core.specs.Setups.{may_be_moved, refs as refs_of, size};
 ghost use Rattle.trace_words.specs.Steps.{MayClaim, LacksRoom, FitsRoom, AsksFor};
 ghost use Rattle.trace_core.specs.Views.{hits};
-ghost use Rattle.trace_table.specs.Seats.{IsTable, IsSeat, setup_at, Asks, ClaimsFor};
+ghost use Rattle.trace_table.specs.Seats.{IsTable, IsSeat, setup_at, Asks, ClaimsFor, ClaimsRoot};
 
 use crate::table::{TraceTable, WorkerSeat};
 use crate::tokens::{Claim, Found, Won};
@@ -16,22 +16,32 @@ use std::marker::Brand;
 use trace_words::{About, ask, claim_and_move, claim_in_place};
 
 impl TraceTable {
-    /// Claims the object at `x` for a root that is no global. A root whose object was claimed
-    /// before is set when `ask` has said so.
+    /// Claims the object at `x` for a root that is no global. A root whose object has its target
+    /// has asked for it then. Else it has once the object is copied.
     pub fn claim(&self, seat: &mut WorkerSeat, x: u32) -> Claim
         requires table { IsTable self.now }
         requires seat { IsSeat self.now seat.old }
         requires spent { seat.old.seat.me.0.won ≡ [] }
         requires held { IsHeld (setup_at self.now).before x }
         ensures seat { IsSeat self.now seat.new }
-        ensures claims { ClaimsFor (setup_at self.now) x ByRoot seat.old.seat.me.0
-            seat.new.seat.me.0 result }
+        ensures claims { ClaimsRoot (setup_at self.now) x seat.old.seat.me.0 seat.new.seat.me.0
+            result }
     {
-        self.claim_for::<Brand>(seat, x)
+        match self.claim_for::<Brand>(seat, x) {
+            Claim::Old => {
+                self.ask(seat, x, x);
+                Claim::Old
+            }
+            Claim::Seen(target) => {
+                self.ask(seat, x, target);
+                Claim::Seen(target)
+            }
+            Claim::Won(won) => Claim::Won(won),
+        }
     }
 
     /// A root that is no global asks for the object at `x`, whose target the seat knows.
-    pub fn ask(&self, seat: &mut WorkerSeat, x: u32, target: u32)
+    fn ask(&self, seat: &mut WorkerSeat, x: u32, target: u32)
         requires table { IsTable self.now }
         requires seat { IsSeat self.now seat.old }
         requires held { IsHeld (setup_at self.now).before x }
@@ -56,6 +66,7 @@ impl TraceTable {
     }
 
     /// Claims the object at `x`, which something asks for.
+    #[inline(always)]
     pub(crate) fn claim_for<C: About>(&self, seat: &mut WorkerSeat, x: u32) -> Claim
         requires about { (setup_at self.now ≡ C.setup) × (x ≡ C.object) }
         requires table { IsTable self.now }
@@ -75,6 +86,7 @@ impl TraceTable {
     }
 
     /// Gives the object at `x` its target, if no other does so first.
+    #[inline(always)]
     fn win<C: About>(&self, seat: &mut WorkerSeat, x: u32, word: u64) -> Claim
         requires about { (setup_at self.now ≡ C.setup) × (x ≡ C.object) }
         requires table { IsTable self.now }
@@ -98,6 +110,7 @@ impl TraceTable {
     }
 
     /// Claims the object at `x`, which stays: it may not move, or has no room.
+    #[inline(always)]
     fn win_in_place<C: About>(
         &self,
         seat: &mut WorkerSeat,

@@ -22,6 +22,7 @@ use trace_words::{
 impl TraceTable {
     /// Copies a claimed object to its target, and sets the target's unlog bit and its start bit. In
     /// place it sets the unlog bit alone. The token has the right to scan it.
+    #[inline(always)]
     pub fn copy(&self, seat: &mut WorkerSeat, won: Won) -> Grey
         requires table { IsTable self.now }
         requires seat { IsSeat self.now seat.old }
@@ -36,6 +37,7 @@ impl TraceTable {
     }
 
     /// Makes all steps of the copying of an object.
+    #[inline(always)]
     fn copy_object(&self, seat: &mut TraceSeat, won: &Won)
         requires table { IsTable self.now }
         requires own { seat.old.table_id ≡ self.now.row.words.table_id }
@@ -53,6 +55,7 @@ impl TraceTable {
     }
 
     /// The token of an object that was copied.
+    #[inline(always)]
     fn token<C: About>(&self, seat: &mut TraceSeat, won: Won) -> Grey
         requires about { (setup_at self.now ≡ C.setup) × (won.object ≡ C.object)
             × (won.target ≡ C.target) }
@@ -84,6 +87,7 @@ impl TraceTable {
     }
 
     /// Sets the unlog bit of an object that stays.
+    #[inline(always)]
     fn copy_in_place<C: About>(&self, seat: &mut TraceSeat, won: &Won)
         requires about { (setup_at self.now ≡ C.setup) × (won.now.object ≡ C.object)
             × (C.index ≡ size_of_object C.setup C.object) }

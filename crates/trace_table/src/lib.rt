@@ -5,6 +5,7 @@ mod blocks;
 mod claiming;
 mod copying;
 mod ends;
+mod following;
 mod globals;
 mod lines;
 mod logged;

@@ -1,6 +1,7 @@
 //! Marks of the lines that an object touches where it will be.
 
-ghost use Rattle.std.specs.Prelude.{◌≡◌, ℕ, ◌+◌, ◌-◌, ◌/◌, ◌<◌, ◌≤◌};
+ghost use Rattle.std.specs.Int.{bit_at};
+ghost use Rattle.std.specs.Prelude.{◌≡◌, ℕ, ◌+◌, ◌-◌, ◌/◌, ◌<◌, ◌≤◌, IsTrue};
 ghost use Rattle.heap_layout.specs.Zones.{heap_of, line_at, row_words};
 ghost use Rattle.object_model.specs.Lines.{TouchesLine};
 ghost use Rattle.side_meta.specs.declared.word.TheConstants.{BITS_PER_WORD};
@@ -15,7 +16,7 @@ use heap_layout::line_of;
 use line_bits::run_mask;
 use side_meta::BITS_PER_WORD;
 use std::marker::Brand;
-use trace_words::{About, mark_lines};
+use trace_words::{About, look_at_lines, mark_lines};
 
 impl TraceTable {
     /// Marks the lines that an object touches where it will be. The seat copied it, or took in its
@@ -56,6 +57,7 @@ impl TraceTable {
     }
 
     /// Marks those of the lines `first` to `last` of an object that have their bits in a word.
+    /// Where all are marked already, nothing is written.
     fn mark_word<C: About>(
         &self,
         seat: &mut WorkerSeat,
@@ -85,6 +87,19 @@ impl TraceTable {
         let low = first.saturating_sub(BITS_PER_WORD * word);
         let high = (last - BITS_PER_WORD * word).min(BITS_PER_WORD - 1);
         let at = (self.layout.line_at(0) + word) as usize;
-        mark_lines::<C>(&self.row.words, &mut seat.seat, at, run_mask(low, high));
+        let mask = run_mask(low, high);
+        let marked = look_at_lines(&self.row.words, &mut seat.seat, at);
+        if has_all(marked, mask) {
+            return;
+        }
+        mark_lines::<C>(&self.row.words, &mut seat.seat, at, mask);
     }
+}
+
+/// Whether all bits of a mask are set in a word.
+#[inline(always)]
+fn has_all(word: u64, mask: u64) -> bool
+    ensures { IsTrue result → (k : ℕ) → bit_at mask k ≡ 1 → bit_at word k ≡ 1 }
+{
+    word & mask == mask
 }

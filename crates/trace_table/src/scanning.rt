@@ -4,7 +4,6 @@
 ghost use Rattle.std.specs.Prelude.{◌≡◌, ◌≢◌, ℕ, ◌+◌, ◌<◌, ◌≤◌, IsTrue, All, [], length, vec_len, vec_capacity};
 ghost use Rattle.object_model.specs.Lines.{TouchesLine};
 ghost use Rattle.object_model.specs.Objects.{IsHeld};
-ghost use Rattle.trace_core.specs.CallEvents.{IsNoRoot};
 ghost use Rattle.trace_core.specs.Machine.{ByField};
 ghost use Rattle.trace_core.specs.Setups.{blocks, refs as refs_of};
 ghost use Rattle.trace_words.specs.Rule.{HasLined};
@@ -13,7 +12,7 @@ ghost use Rattle.trace_table.specs.Seats.{IsTable, IsSeat, IsGrey, setup_at, Fol
 ghost use Rattle.trace_core.specs.Views.{hits};
 
 use crate::table::{TraceTable, WorkerSeat};
-use crate::tokens::{Claim, Grey};
+use crate::tokens::Grey;
 use object_model::HEADER_WORDS;
 use std::marker::Brand;
 use trace_words::{About, keep_field, read_field, scan_field, take_in};
@@ -24,6 +23,7 @@ impl TraceTable {
     /// lines.
     ///
     /// It takes no memory: `out` has room for as many tokens as the object has references.
+    #[inline(always)]
     pub fn scan_object(&self, seat: &mut WorkerSeat, grey: Grey, out: &mut Vec<Grey>)
         requires table { IsTable self.now }
         requires seat { IsSeat self.now seat.old }
@@ -60,6 +60,7 @@ impl TraceTable {
     }
 
     /// Scans one field of the object that was at `x` and is at `target`.
+    #[inline(always)]
     fn scan_field<C: About>(
         &self,
         seat: &mut WorkerSeat,
@@ -103,6 +104,7 @@ impl TraceTable {
     }
 
     /// The target of the object at `r`, to which field `k` of the object at `y` refers.
+    #[inline(always)]
     fn follow_field<C: About>(
         &self,
         seat: &mut WorkerSeat,
@@ -128,36 +130,5 @@ impl TraceTable {
         ensures capacity { vec_capacity out.new ≡ vec_capacity out.old }
     {
         self.follow::<C>(seat, r, out)
-    }
-
-    /// The target of the object at `r`, which something that is no root asks for. Claims and copies
-    /// it, and pushes its token, if no other claimed it.
-    pub(crate) fn follow<C: About>(&self, seat: &mut WorkerSeat, r: u32, out: &mut Vec<Grey>) -> u32
-        requires about { (setup_at self.now ≡ C.setup) × (r ≡ C.object) }
-        requires table { IsTable self.now }
-        requires seat { IsSeat self.now seat.old }
-        requires spent { seat.old.seat.me.0.won ≡ [] }
-        requires held { IsHeld C.setup.before C.object }
-        requires asks { AsksFor C.setup seat.old.seat.me.0 C.object C.cause }
-        requires no_root { IsNoRoot C.object C.cause }
-        requires room { vec_len out.old < vec_capacity out.old }
-        ensures seat { IsSeat self.now seat.new }
-        ensures follows { Follows C.object result seat.old.seat.me.0 seat.new.seat.me.0
-            out.old.items out.new.items }
-        ensures tokens { All (IsGrey self.now) out.old.items
-            → All (IsGrey self.now) out.new.items }
-        ensures more { vec_len out.new ≤ vec_len out.old + 1 }
-        ensures capacity { vec_capacity out.new ≡ vec_capacity out.old }
-    {
-        match self.claim_for::<C>(seat, r) {
-            Claim::Old => r,
-            Claim::Seen(target) => target,
-            Claim::Won(won) => {
-                let grey = self.copy(seat, won);
-                let target = grey.at();
-                out.push_reserved(grey);
-                target
-            }
-        }
     }
 }

@@ -150,7 +150,7 @@ module _ (p : Setup) where
           keeps,
           tt,
           target-learnt p s h id me.0 at live (x + 2) n me.1 x (target_in n) refl (is.1 ∙ ap (λ k. Some (target_in k)) word),
-          ((λ e. refl), (λ ne. absurd (ne number)), λ ne. absurd (ne number)),
+          ((λ e. (is.0, refl)), (λ ne. absurd (ne number)), λ ne. absurd (ne number)),
         ))
         | inr other ↦ elim (cases_Bool (is_old_word (base_after_trace p) n)) as (λ _. (w : Share) × (a : Act (Unit {0})) × Valid s.homes me.1 a × KeepsTrace p (stepped s (x + 2) n id me.1 w a) × ShowsClaim p x me n (w, carried_after me.1 a)) [
           | inl old ↦ (let is : IsTrue (stays_old p x) = aged p h.events h.trace x held (λ e. other (ap number_in (sym word) ∙ e)) (ap (is_old_word (base_after_trace p)) word ∙ old) in (
@@ -158,7 +158,7 @@ module _ (p : Setup) where
             keeps,
             tt,
             target-learnt p s h id me.0 at live (x + 2) n me.1 x x refl (old-target p h.events h.trace x is),
-            ((λ e. absurd (other e)), (λ ne. λ e. refl), λ ne. λ e. absurd (true≢false (sym old ∙ e))),
+            ((λ e. absurd (other e)), (λ ne. λ e. (is, refl)), λ ne. λ e. absurd (true≢false (sym old ∙ e))),
           ))
           | inr young ↦ (let free : target_of p h.events x ≡ None = waits-for-claim p h.events h.trace x held (λ e. other (ap number_in (sym word) ∙ e)) (ap (is_old_word (base_after_trace p)) word ∙ young) in (
             me.0,

@@ -1,27 +1,29 @@
 -- Steps of the copying of an object.
-use Rattle.std.proofs.Common.{◌≡◌, ◌≢◌, ℕ, ◌+◌, ◌^◌, ◌<◌, ◌≤◌, false, nat_eq, List, ◌∷◌, slice_index, refl, sym, ap, ◌∙◌, subst, arith}
+use Rattle.std.proofs.Common.{◌≡◌, ◌≢◌, ℕ, ◌+◌, ◌^◌, ◌<◌, ◌≤◌, Bool, false, true≢false, ◌&&◌, not, IsTrue, inl, inr, Some, nat_eq, List, ◌∷◌, slice_index, refl, sym, ap, ◌∙◌, subst, arith}
 use Rattle.std.specs.Prelude.{bit_or, nat_lt}
-use Rattle.std.proofs.lemmas.Bool.{cond-true, cond-false, eq-eqb, ne_eqb, lt-ltb, le-ltb}
+use Rattle.std.proofs.lemmas.Bool.{cases_Bool, and_parts, cond-true, cond-false, eq-eqb, ne_eqb, lt-ltb, le-ltb}
 use mathlib.Core.Option.{some}
 use lib.ListN.{get_elem?}
 use Rattle.atomic_table.specs.Table.{keeps, Allows}
 use Rattle.heap_layout.specs.Zones.{UnlogBits, StartBits}
 use Rattle.object_model.specs.BitWords.{bit_word, bit_place}
 use Rattle.object_model.specs.Objects.{word_at}
-use Rattle.trace_core.specs.Setups.{Setup, blocks, size, stays_old}
-use Rattle.trace_core.specs.Machine.{Machine, Stage, Copying, Scanning, Copy, next, put, copy_place, copy_value, copied_word, offset_of_step}
+use Rattle.trace_core.specs.Setups.{Setup, blocks, held, size, stays_old}
+use Rattle.object_model.specs.Times.{times, one_if}
+use Rattle.trace_core.specs.Machine.{Machine, Stage, Unclaimed, Copying, Scanning, Copy, target, next, put, copy_place, copy_value, copied_word, offset_of_step}
 use Rattle.trace_core.specs.Traces.{machine_after}
-use Rattle.trace_core.specs.Views.{View, is_pair, without, hits}
+use Rattle.trace_core.specs.Views.{View, is_pair, without, hits, is_stage_copied}
 use Rattle.trace_core.proofs.Puts.{put_here, put_else}
 use Rattle.trace_core.proofs.CountedRights.{hits-cons, hits-without, times-cons}
 use Rattle.trace_core.proofs.CopyEvents.{Reaches, word-copied, unlogged-moved, unlogged-in-place, started}
 use Rattle.trace_core.proofs.CopyRights.{won-stage, holds-copied, holds-step}
-use Rattle.trace_core.proofs.Clauses.{copying}
+use Rattle.trace_core.proofs.Clauses.{copying, held-of}
+use Rattle.trace_core.proofs.Idle.{one-if-true}
 use Rattle.trace_words.specs.declared.share.Share.{Share}
 use Rattle.trace_words.specs.Shares.{view_of, pooled, copies_on, ends_copy}
 use Rattle.trace_words.specs.Rule.{TraceState, SeatShare, KeepsTrace}
-use Rattle.trace_words.specs.Steps.{MayCopy}
-use Rattle.trace_words.proofs.Pooled.{Alike, has-won, has-known}
+use Rattle.trace_words.specs.Steps.{CopiesHeldOnce, MayCopy}
+use Rattle.trace_words.proofs.Pooled.{Alike, has-won, has-known, pool-part}
 use Rattle.trace_words.proofs.RuleSteps.{word-is, event-only, nothing-seen}
 
 -- the view after a step of copying that is not the last one, and after the last one
@@ -178,3 +180,22 @@ module _ (p : Setup) where
             (like-end x k (pooled s.views) (view_of me.0) (had p s h id me.0 at x t k may) may.right) refl refl,
         refl,
       )
+
+  -- what a share copied was held, and is listed once
+  target-copied : (st : Stage) → IsTrue (is_stage_copied st) → (t : ℕ) × (target st ≡ Some t)
+  target-copied Unclaimed is = absurd (true≢false (sym is))
+  target-copied (Copying t k) is = absurd (true≢false (sym is))
+  target-copied (Scanning t k) is = (t, refl)
+
+  copied-once : (s : TraceState) (h : KeepsTrace p s) (id : ℕ) (v : Share) → get_elem? s.views id ≡ some v → CopiesHeldOnce p v
+  copied-once s h id v at x =
+      let part = pool-part (nat_eq x) (λ u. u.copied) refl (λ u z. refl) s.views id v at in let all = h.holds.copied x in
+      let m : Machine = machine_after p h.events in let young : Bool = not (stays_old p x) in let copied : Bool = is_stage_copied (m.stage x) in
+      elim (cases_Bool (young && copied)) as (λ _. times x v.copied ≤ one_if (held p x)) [
+        | inl is ↦ (let at-target = target-copied (m.stage x) (and_parts young copied is).1 in
+            let one = one-if-true (young && copied) is in let there = one-if-true (held p x) (held-of p h.events h.trace x at-target.0 at-target.1) in omega arith)
+        | inr none ↦ (let zero : one_if (young && copied) ≡ 0 = ap one_if none in omega arith)
+      ]
+
+  pub look-at-copies : (slots id : ℕ) (me : SeatShare) (i : ℕ) → Allows (KeepsTrace p) slots id me i (λ n. n) (λ n now. CopiesHeldOnce p me.0 × (now ≡ me))
+  look-at-copies slots id me i s h _ at _ = (me.0, keeps, tt, nothing-seen p s h id me.0 at i (slice_index s.words i) me.1 refl, (copied-once s h id me.0 at, refl))

@@ -95,10 +95,10 @@ pub loses-block : (b : ℕ) (v : Share) (now : SeatShare) → TakesBlock b (take
 loses-block b v now shows = ap (λ (s : SeatShare). s.0) (shows.1 (λ e. absurd (omega (arith, e))))
 
 pub meets-claim : (v : Share) (now : SeatShare) → ShowsClaim crowded_setup 806 (v, []) (collector_word 1 8998) now → now.0 ≡ learns 806 8998 v
-meets-claim v now shows = ap (λ (s : SeatShare). s.0) (shows.0 refl)
+meets-claim v now shows = ap (λ (s : SeatShare). s.0) (shows.0 refl).1
 
 pub loses-claim : (v : Share) (now : SeatShare) → ClaimsMoved crowded_setup 806 ByRoot 0 (v, []) (collector_word 1 8998) now → now.0 ≡ learns 806 8998 v
 loses-claim v now shows = ap (λ (s : SeatShare). s.0) (shows.1 (λ e. absurd (omega (arith, e)))).1
 
 pub meets-old : (v : Share) (now : SeatShare) → ShowsClaim nursery_setup 806 (v, []) (collector_word 1 806) now → now.0 ≡ learns 806 806 v
-meets-old v now shows = ap (λ (s : SeatShare). s.0) (shows.1 (λ e. absurd (omega (arith, e))) refl)
+meets-old v now shows = ap (λ (s : SeatShare). s.0) (shows.1 (λ e. absurd (omega (arith, e))) refl).1

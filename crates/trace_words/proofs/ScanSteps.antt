@@ -23,11 +23,11 @@ use Rattle.trace_core.proofs.Law.{sound}
 use Rattle.trace_core.proofs.ScanRights.{scanning-at, unset-at, holds-scanned, holds-set}
 use Rattle.trace_core.proofs.Steps.{copied-plain}
 use Rattle.trace_words.specs.declared.share.Share.{Share}
-use Rattle.trace_words.specs.Shares.{view_of, pooled, scans_field, sets_global, asks_for, sets_lines}
+use Rattle.trace_words.specs.Shares.{view_of, pooled, scans_field, sets_global, asks_for, sets_lines, sees_lines}
 use Rattle.trace_words.specs.Rule.{TraceState, SeatShare, KeepsTrace, IsShareOf}
 use Rattle.trace_words.specs.Steps.{MayScan, MaySet, MayMark, Knows, IsLast}
 use Rattle.trace_words.proofs.Pooled.{Alike, like-itself, has-grey, has-known, has-unset}
-use Rattle.trace_words.proofs.RuleSteps.{grows-next, share-stays, word-is, known-is, rooms-after, event-made, event-only, nothing-seen}
+use Rattle.trace_words.proofs.RuleSteps.{grows-next, share-stays, word-is, known-is, rooms-after, event-made, event-only, nothing-made, nothing-seen}
 
 like-scanned : (x k : ℕ) (V v : View) → 0 < hits x k V.grey → 0 < hits x k v.grey → Alike V (scanned_view x k V) v (scanned_view x k v)
 like-scanned x k V v had has = record {
@@ -179,6 +179,41 @@ module _ (p : Setup) where
   pub read-pins : (slots id : ℕ) (me : SeatShare) (i : ℕ) → InZone (blocks p) PinBits i → Allows (KeepsTrace p) slots id me i (λ n. n) (λ n now. (n ≡ word_at p.before i) × (now ≡ me))
   read-pins slots id me i there s h _ at _ =
       (me.0, keeps, tt, nothing-seen p s h id me.0 at i (slice_index s.words i) me.1 refl, (word-is p s h id me.0 at i ∙ (sound p h.events h.trace).sides.rest.pins i there, refl))
+
+  -- a load of a line word shows which of its bits are set
+  share-sees-lines : (m : Machine) (v : Share) (word found : ℕ) → 0 < v.parts → found ≡ slice_index m.words word → IsShareOf p m v → IsShareOf p m (sees_lines word found v)
+  share-sees-lines m v word found live seen is = record {
+    token = λ none. absurd (omega arith);
+    busy = is.busy;
+    owned = is.owned;
+    owner = is.owner;
+    full = is.full;
+    room = λ some-word. (let end = is.room some-word in (end.0, record { from = end.1.from; limit = end.1.limit; words = end.1.words; front = end.1.front; filled = end.1.filled; owner = end.1.owner }));
+    listed = is.listed;
+    number = is.number;
+    numbers = is.numbers;
+    one = is.one;
+    none = is.none;
+    few = is.few;
+    fewer = is.fewer;
+    lined = λ n few set-by. (let i : ℕ = first (blocks p) LineWords + n / 64 in
+        ⊎_elim (λ (here : IsTrue (is_pair i set-by.0 (word, found))). let both = pair-parts word found i set-by.0 here in
+        ap (λ w. nat_eq (bit_at w (n % 64)) 1) (ap (slice_index m.words) (sym both.0) ∙ sym seen ∙ both.1)
+        ∙ eq-eqb (bit_at set-by.0 (n % 64)) 1 set-by.1)
+        (λ (before : 0 < hits i set-by.0 v.lined). is.lined n few (set-by.0, set-by.1, before)) (hits-from word found v.lined i set-by.0 set-by.2));
+  }
+
+  pub look-at-lines : (slots id : ℕ) (me : SeatShare) (word : ℕ) → 0 < me.0.parts
+      → Allows (KeepsTrace p) slots id me word (λ n. n) (λ n now. now ≡ (sees_lines word n me.0, me.1))
+  look-at-lines slots id me word live s h _ at _ = let n : ℕ = slice_index s.words word in (
+    sees_lines word n me.0,
+    keeps,
+    tt,
+    nothing-made p s h id me.0 at word n me.1 (sees_lines word n me.0) (pooled s.views) refl h.holds (like-itself (pooled s.views) (view_of me.0))
+        (record { parts = refl; token = refl; gave = refl; took = refl; worker = refl; numbers = refl }) refl refl refl
+        (share-sees-lines (machine_after p h.events) me.0 word n live (word-is p s h id me.0 at word) (h.shares id me.0 at)),
+    refl,
+  )
 
   -- bits of a line word are set
   module _ (s : TraceState) (h : KeepsTrace p s) (id : ℕ) (v : Share) (at : get_elem? s.views id ≡ some v) (x t word mask : ℕ) (may : MayMark p v x t word mask) where

@@ -60,7 +60,7 @@ pub record IsEndOf (p : Setup) (m : Machine) (s : Share) (b : ℕ) : Type 0 wher
   pub filled : IsFilled p m b words
   pub owner : 0 < hits b s.worker s.owned
 
--- the share set the bit of this line
+-- the share set the bit of this line, or saw it set
 abbrev pub HasLined : Setup → Share → ℕ → Type 0
 HasLined p s line = (mask : ℕ) × (bit_at mask (line % BITS_PER_WORD) ≡ 1)
     × (0 < hits (first (blocks p) LineWords + line / BITS_PER_WORD) mask s.lined)
@@ -73,7 +73,7 @@ pub record IsShareOf (p : Setup) (m : Machine) (s : Share) : Type 0 where
   -- blocks left with more than MAX_MEDIUM_WORDS kept words
   pub full : (b : ℕ) → 0 < times b s.full → IsFilled p m b (MAX_MEDIUM_WORDS + 1)
   pub room : 0 < s.limit → (b : ℕ) × IsEndOf p m s b
-  -- line bits that it set are set
+  -- line bits that it set, or saw set, are set
   pub lined : (line : ℕ) → line < BLOCK_LINES * blocks p → HasLined p s line
       → IsTrue (bit_of (blocks p) LineWords m.words line)
   -- its number, and those that it may give, are numbers of workers

@@ -219,6 +219,10 @@ sets_lines x word mask s = record s {
   made = listed (MarkLines x word mask) ∷ s.made;
 }
 
+-- it sees which bits of a line word are set;
+abbrev pub sees_lines : ℕ → ℕ → Share → Share
+sees_lines word found s = record s { lined = (word, found) ∷ s.lined }
+
 -- it takes block b for its worker. The block's words are the room, and the share leaves the block
 -- that it filled, which has more than MAX_MEDIUM_WORDS kept words, or may have few.
 abbrev pub fills_next : Setup → ℕ → Share → Share

@@ -7,10 +7,10 @@ use Rattle.heap_layout.specs.declared.layout.TheConstants.{GLOBALS, BLOCK_WORDS,
 use Rattle.object_model.specs.BitWords.{bit_place}
 use Rattle.object_model.specs.Lines.{TouchesLine}
 use Rattle.object_model.specs.Objects.{IsHeld, word_at, global_at, ref_at}
-use Rattle.object_model.specs.Times.{times}
+use Rattle.object_model.specs.Times.{times, one_if}
 use Rattle.object_model.specs.declared.shape.TheConstants.{COLLECTOR_OFFSET, MAX_MEDIUM_WORDS}
 use Rattle.side_meta.specs.declared.word.TheConstants.{BITS_PER_WORD}
-use Rattle.trace_core.specs.Setups.{Setup, blocks, collection, size, refs, stays_old, keeps_its_words, may_be_moved}
+use Rattle.trace_core.specs.Setups.{Setup, blocks, collection, held, size, refs, stays_old, keeps_its_words, may_be_moved}
 use Rattle.trace_core.specs.Machine.{Event, ClaimCause, ByRoot, ByGlobal, ByField}
 use Rattle.trace_core.specs.Traces.{IsTracing, IsFinished, machine_after, heap_after, target_of, is_scan_of}
 use Rattle.trace_core.specs.Outcomes.{base_after_trace}
@@ -28,12 +28,14 @@ ShowsBit p x me found now =
     (bit_at found (bit_place (blocks p) x) ≡ 1 → now ≡ (learns x x me.0, me.1))
     × (bit_at found (bit_place (blocks p) x) ≢ 1 → now ≡ me)
 
--- A load of a collector word shows that the object is claimed, or is old, or was not claimed.
+-- A load of a collector word shows that the object is claimed and not old, or is old and stays, or
+-- was not claimed.
 abbrev pub ShowsClaim : Setup → ℕ → SeatShare → ℕ → SeatShare → Type 0
 ShowsClaim p x me found now =
-    (number_in found ≡ collection p → now ≡ (learns x (target_in found) me.0, me.1))
+    (number_in found ≡ collection p
+    → (stays_old p x ≡ false) × (now ≡ (learns x (target_in found) me.0, me.1)))
     × (number_in found ≢ collection p → is_old_word (base_after_trace p) found ≡ true
-    → now ≡ (learns x x me.0, me.1))
+    → IsTrue (stays_old p x) × (now ≡ (learns x x me.0, me.1)))
     × (number_in found ≢ collection p → is_old_word (base_after_trace p) found ≡ false
     → (found ≡ word_at p.before (x + COLLECTOR_OFFSET)) × (now ≡ me))
 
@@ -88,6 +90,10 @@ pub record MayCopy (p : Setup) (v : Share) (x t k : ℕ) : Type 0 where
   pub live : 0 < v.parts
   pub right : 0 < hits x k v.won
   pub target : 0 < hits x t v.known
+
+-- each object that the share copied was held as the trace began, and it copied it once
+abbrev pub CopiesHeldOnce : Setup → Share → Type 0
+CopiesHeldOnce p v = (x : ℕ) → times x v.copied ≤ one_if (held p x)
 
 -- field k of the object that was at x, and is at t, is to be scanned next
 pub record MayScan (p : Setup) (v : Share) (x t k : ℕ) : Type 0 where
@@ -176,7 +182,7 @@ pub record LeavesTrace (p : Setup) (words : List ℕ) (v : Share) : Type 0 where
   pub events : List Event
   pub trace : IsTracing p events
   pub words_are : words ≡ (machine_after p events).words
-  -- line bits that were set are set
+  -- line bits that were set, or seen set, are set
   pub lined : (line : ℕ) → line < BLOCK_LINES * blocks p → HasLined p v line
       → IsTrue (bit_of (blocks p) LineWords words line)
   -- An object that may move is in place only if no block is Free.

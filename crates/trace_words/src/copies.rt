@@ -9,7 +9,7 @@ ghost use Rattle.trace_core.specs.Machine.{copied_word, offset_of_step};
 ghost use Rattle.trace_core.specs.Setups.{blocks, size};
 ghost use Rattle.trace_words.specs.Rule.{setup_in};
 ghost use Rattle.trace_words.specs.Shares.{copies_on, ends_copy};
-ghost use Rattle.trace_words.specs.Steps.{MayCopy};
+ghost use Rattle.trace_words.specs.Steps.{CopiesHeldOnce, MayCopy};
 
 use crate::rule::{About, TraceSeat, TraceWords};
 use crate::share::Share;
@@ -49,6 +49,28 @@ impl<C: About> Play<(), Share> for EndsCopy<C> {
     ghost use Rattle.trace_words.specs.Shares.{ends_copy};
 
     ghost then = { λ step me found now. now ≡ (ends_copy C.object C.index me.0, me.1) };
+}
+
+struct LooksAtCopies<C> {
+    of: PhantomData<C>,
+}
+
+impl<C: About> Play<(), Share> for LooksAtCopies<C> {
+    ghost use Rattle.std.specs.Prelude.{◌≡◌};
+    ghost use Rattle.trace_words.specs.Steps.{CopiesHeldOnce};
+
+    ghost then = { λ step me found now. CopiesHeldOnce C.setup me.0 × (now ≡ me) };
+}
+
+/// A load of any word, which shows that the objects that the seat copied are different ones.
+#[inline(always)]
+pub fn look_at_copies<C: About>(row: &TraceWords, seat: &mut TraceSeat, word: usize)
+    requires about { setup_in row.now.key ≡ C.setup }
+    requires own { (seat.old.table_id ≡ row.now.table_id) × (word < row.now.table_id.words) }
+    ensures own { (seat.new.table_id ≡ seat.old.table_id) × (seat.new.me ≡ seat.old.me) }
+    ensures copies { CopiesHeldOnce C.setup seat.old.me.0 }
+{
+    row.load::<LooksAtCopies<C>>(seat, word);
 }
 
 /// The word at an offset of an object that this seat copies.

@@ -18,7 +18,9 @@ mod tests;
 
 pub use blocks::{look_at_block, take_block, take_block_at_any_time};
 pub use claims::{claim_and_move, claim_in_place, look_at_bit, look_at_claim};
-pub use copies::{copy_word, read_word, set_start_of_copy, set_unlog_in_place, set_unlog_of_copy};
+pub use copies::{
+    copy_word, look_at_copies, read_word, set_start_of_copy, set_unlog_in_place, set_unlog_of_copy,
+};
 pub use ends::{share_row, take_row_back};
 pub use event::{TraceCause, TraceEvent};
 pub use examples::{share_makes_a_whole_trace, words_that_are_met_show_more, workers_fill_a_heap};
@@ -29,8 +31,8 @@ pub use laws::{
 };
 pub use rule::{About, TraceKey, TraceRule, TraceSeat, TraceWords};
 pub use scans::{
-    ask, keep_field, keep_global, mark_lines, read_field, read_global, read_pins, read_shape,
-    scan_field, set_global,
+    ask, keep_field, keep_global, look_at_lines, mark_lines, read_field, read_global, read_pins,
+    read_shape, scan_field, set_global,
 };
 pub use seats::{give_global, give_parts, give_scan, take_in};
 pub use share::Share;

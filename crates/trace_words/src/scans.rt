@@ -9,7 +9,7 @@ ghost use Rattle.heap_layout.specs.Zones.{Globals, PinBits, InZone, first};
 ghost use Rattle.object_model.specs.Objects.{IsHeld, word_at, ref_at, global_at};
 ghost use Rattle.trace_core.specs.Setups.{blocks};
 ghost use Rattle.trace_words.specs.Rule.{setup_in};
-ghost use Rattle.trace_words.specs.Shares.{scans_field, sets_global, asks_for, sets_lines};
+ghost use Rattle.trace_words.specs.Shares.{scans_field, sets_global, asks_for, sets_lines, sees_lines};
 ghost use Rattle.trace_words.specs.Steps.{MayScan, MaySet, MayMark, Knows, IsLast};
 
 use crate::rule::{About, TraceSeat, TraceWords};
@@ -97,6 +97,15 @@ impl<C: About> Play<(), Share> for MarksLines<C> {
 
     ghost then = { λ step me found now.
         now ≡ (sets_lines C.object step.word step.first me.0, me.1) };
+}
+
+struct LooksAtLines;
+
+impl Play<(), Share> for LooksAtLines {
+    ghost use Rattle.std.specs.Prelude.{◌≡◌};
+    ghost use Rattle.trace_words.specs.Shares.{sees_lines};
+
+    ghost then = { λ step me found now. now ≡ (sees_lines step.word found me.0, me.1) };
 }
 
 /// The field, at `at`, that is to be scanned next.
@@ -234,4 +243,15 @@ pub fn mark_lines<C: About>(row: &TraceWords, seat: &mut TraceSeat, word: usize,
         ≡ (sets_lines C.object word mask seat.old.me.0, seat.old.me.1) }
 {
     row.fetch_or::<MarksLines<C>>(seat, word, mask);
+}
+
+/// The word of line bits at `word`. Those that are set stay set.
+#[inline(always)]
+pub fn look_at_lines(row: &TraceWords, seat: &mut TraceSeat, word: usize) -> u64
+    requires own { (seat.old.table_id ≡ row.now.table_id) × (word < row.now.table_id.words) }
+    requires live { 0 < seat.old.me.0.parts }
+    ensures own { seat.new.table_id ≡ seat.old.table_id }
+    ensures lines { seat.new.me ≡ (sees_lines word result seat.old.me.0, seat.old.me.1) }
+{
+    row.load::<LooksAtLines>(seat, word)
 }

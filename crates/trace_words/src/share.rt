@@ -40,7 +40,7 @@ pub struct Share {
     pub last: LinkedList<u64>,
     /// Blocks that it took, or a share that it took in, with the numbers of the workers.
     pub owned: LinkedList<(u64, u64)>,
-    /// Words of line bits in which it set bits, with the masks.
+    /// Words of line bits in which it set bits or saw them set, with the masks.
     pub lined: LinkedList<(u64, u64)>,
     /// Blocks that it saw not to be Free.
     pub busy: LinkedList<u64>,

@@ -3,7 +3,7 @@ use Rattle.std.specs.Prelude.{All, length}
 use Rattle.trace_core.specs.Views.{hits}
 use Rattle.trace_table.specs.Seats.{IsGrey}
 use Rattle.racing_collector.specs.Accounts.{Accounts}
-use Rattle.racing_collector.proofs.Accounting.{racer-on, accounts-pushed, gave-pushed}
+use Rattle.racing_collector.proofs.Accounting.{racer-on, accounts-pushed, copied-pushed, gave-pushed}
 use Rattle.racing_collector.proofs.racing.Racing.serve_global.Goals as goal
 
 pub trace_global-requires-clause-tokens : goal.trace_global-requires-clause-tokens
@@ -15,6 +15,10 @@ returns-clause-racer c = racer-on c.args.self.now c.args.seat.now c.trace_global
 pub returns-clause-gave : goal.returns-clause-gave
 returns-clause-gave c = subst (λ l. c.trace_global.new.seat.seat.me.0.gave + length l ≡ c.args.seat.now.seat.me.0.gave + length c.trace_global.new.out.items) c.in_ok-reserve.ensures.items
     (gave-pushed c.args.self.now _ _ _ _ c.trace_global.ensures.scans.pushes)
+
+pub returns-clause-copied : goal.returns-clause-copied
+returns-clause-copied c = subst (λ l. length c.trace_global.new.seat.seat.me.0.copied + length l ≡ length c.args.seat.now.seat.me.0.copied + length c.trace_global.new.out.items) c.in_ok-reserve.ensures.items
+    (copied-pushed c.args.self.now _ _ _ _ c.trace_global.ensures.scans.pushes)
 
 pub returns-clause-accounts : goal.returns-clause-accounts
 returns-clause-accounts c greys served was = let s = c.trace_global.ensures in

@@ -2,7 +2,7 @@ use Rattle.std.proofs.Common.{◌≡◌, ◌+◌, ◌++◌, sym, subst}
 use Rattle.std.specs.Prelude.{All, length}
 use Rattle.trace_table.specs.Seats.{IsGrey}
 use Rattle.racing_collector.specs.Accounts.{Accounts}
-use Rattle.racing_collector.proofs.Accounting.{racer-on, accounts-pushed, gave-pushed, lines-scanned}
+use Rattle.racing_collector.proofs.Accounting.{racer-on, accounts-pushed, copied-pushed, gave-pushed, lines-scanned}
 use Rattle.racing_collector.proofs.racing.Racing.serve_object.Goals as goal
 
 pub scan_object-requires-clause-tokens : goal.scan_object-requires-clause-tokens
@@ -14,6 +14,10 @@ returns-clause-racer c = racer-on c.args.self.now c.args.seat.now c.scan_object.
 pub returns-clause-gave : goal.returns-clause-gave
 returns-clause-gave c = subst (λ l. c.scan_object.new.seat.seat.me.0.gave + length l ≡ c.args.seat.now.seat.me.0.gave + length c.scan_object.new.out.items) c.in_ok-reserve.ensures.items
     (gave-pushed c.args.self.now _ _ _ _ c.scan_object.ensures.scans.pushes)
+
+pub returns-clause-copied : goal.returns-clause-copied
+returns-clause-copied c = subst (λ l. length c.scan_object.new.seat.seat.me.0.copied + length l ≡ length c.args.seat.now.seat.me.0.copied + length c.scan_object.new.out.items) c.in_ok-reserve.ensures.items
+    (copied-pushed c.args.self.now _ _ _ _ c.scan_object.ensures.scans.pushes)
 
 pub returns-clause-accounts : goal.returns-clause-accounts
 returns-clause-accounts c greys served was = let s = c.scan_object.ensures in

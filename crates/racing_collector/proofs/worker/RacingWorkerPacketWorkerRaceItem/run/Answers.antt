@@ -1,11 +1,13 @@
-use Rattle.std.proofs.Common.{◌≡◌, All, ap, subst, arith}
+use Rattle.std.proofs.Common.{All, length, sym, subst, arith}
 use Rattle.std.proofs.lemmas.List.{nil_from_length}
+use Rattle.trace_words.specs.declared.share.Share.{Share}
+use Rattle.trace_table.proofs.SeatShares.{share-is}
 use Rattle.racing_collector.specs.declared.racing.Racing.{Racing}
 use Rattle.racing_collector.specs.declared.tally.Tally.{Tally}
 use Rattle.racing_collector.specs.Accounts.{CountsMore}
 use Rattle.racing_collector.specs.Items.{IsPacketOf}
 use Rattle.racing_collector.specs.Working.{RunsPacket, worked}
-use Rattle.racing_collector.proofs.Running.{served-more, runs-packet, scans-of, scans-later}
+use Rattle.racing_collector.proofs.Running.{served-more, runs-packet, left-falls, scans-of, scans-later}
 use Rattle.racing_collector.proofs.worker.RacingWorkerPacketWorkerRaceItem.run.Goals as goal
 
 pub loop-item-preserved : goal.loop-item-preserved
@@ -13,23 +15,25 @@ loop-item-preserved g c = let is = c.loop-item.invariant in let s = c.in_ok-serv
   same = is.same;
   tally = is.tally;
   served = served-more c.loop-item.self.racing.now c.args.self.now.seat.seat.me.0 c.loop-item.self.seat.seat.me.0 c.serve.new.seat.seat.me.0 c.args.self.now.served.items c.loop-item.self.served.items c.serve.new.served.items
-      c.args.p.items.items c.loop-item.items.items c.pop.new.self.items c.in-Some.item c.loop-item.won.items c.serve.new.won.items is.served c.in-Some.ensures.items s.greys s.took s.gave s.places s.accounts;
+      c.args.p.items.items c.loop-item.items.items c.pop.new.self.items c.in-Some.item c.loop-item.won.items c.serve.new.won.items is.served c.in-Some.ensures.items s.greys s.took s.gave s.copied s.places s.accounts;
 }
 
 pub returns-clause-step : goal.returns-clause-step
 returns-clause-step g c = let is = c.loop-item.invariant in let h = c.in_ok-hand_on.ensures in (
   is.same,
   subst (λ (r : Racing). RunsPacket r (worked c.args.self.now.seat.seat.me.0 c.args.self.now.served.items c.args.self.now.tally) c.args.p c.hand_on.new.pushed.items
-      (worked c.loop-item.self.seat.seat.me.0 c.loop-item.self.served.items c.hand_on.new.tally)) is.same
+      (worked c.look_at_copies.new.seat.seat.me.0 c.loop-item.self.served.items c.hand_on.new.tally)) is.same
+      (subst (λ (v : Share). RunsPacket c.loop-item.self.racing.now (worked c.args.self.now.seat.seat.me.0 c.args.self.now.served.items c.args.self.now.tally) c.args.p c.hand_on.new.pushed.items
+      (worked v c.loop-item.self.served.items c.hand_on.new.tally)) (sym (share-is _ _ c.look_at_copies.ensures.same))
       (runs-packet c.loop-item.self.racing.now c.args.self.now.seat.seat.me.0 c.loop-item.self.seat.seat.me.0 c.args.self.now.served.items c.loop-item.self.served.items c.args.self.now.tally c.hand_on.new.tally c.args.p c.hand_on.new.pushed.items
       c.loop-item.items.items c.loop-item.won.items is.served (nil_from_length c.loop-item.items.items (omega (arith, c.loop-item.items.ok.0, c.in_default.ensures.cases.0)))
-      (subst (λ (t : Tally). CountsMore t c.hand_on.new.tally c.loop-item.won.items) is.tally h.counts) (h.scans c.loop-item.self.racing.now.table is.served.greys) h.all h.cut),
+      (subst (λ (t : Tally). CountsMore t c.hand_on.new.tally c.loop-item.won.items) is.tally h.counts) (h.scans c.loop-item.self.racing.now.table is.served.greys) h.all h.cut)),
 )
 
 pub returns-clause-left : goal.returns-clause-left
-returns-clause-left g c = let h = c.in_ok-hand_on.ensures in
-    let same : c.loop-item.self.tally.kept ≡ c.args.self.now.tally.kept = ap (λ (t : Tally). t.kept) c.loop-item.invariant.tally in
-    omega (arith, h.few, same, c.known.ensures)
+returns-clause-left g c = let is = c.loop-item.invariant in
+    left-falls c.args.self.now.racing.now c.loop-item.self.racing.now c.args.self.now.seat.seat.me.0 c.loop-item.self.seat.seat.me.0 c.look_at_copies.new.seat.seat.me.0 (length c.hand_on.new.pushed.items) (length c.loop-item.won.items)
+    is.same (share-is _ _ c.look_at_copies.ensures.same) c.look_at_copies.ensures.few is.served.copied c.in_ok-hand_on.ensures.few
 
 pub returns-clause-takes : goal.returns-clause-takes
 returns-clause-takes g c = let is = c.loop-item.invariant in

@@ -1,6 +1,5 @@
-use Rattle.std.proofs.Common.{refl, sym, ap, ◌∙◌, subst}
+use Rattle.std.proofs.Common.{refl, sym, subst}
 use Rattle.trace_words.specs.declared.share.Share.{Share}
-use Rattle.trace_words.specs.Steps.{Knows}
 use Rattle.trace_table.specs.Seats.{Asks}
 use Rattle.trace_table.proofs.SeatShares.{share-is, asks-known, room-asked}
 use Rattle.trace_table.proofs.Copyings.{seat-kept}

@@ -5,7 +5,7 @@ use Rattle.trace_core.specs.Setups.{Setup, blocks}
 use Rattle.trace_words.specs.declared.share.Share.{Share}
 use Rattle.trace_words.specs.Shares.{sees_busy, takes_after_full}
 use Rattle.trace_table.specs.Seats.{setup_at}
-use Rattle.trace_table.proofs.SeatShares.{share-is, seat-on, only-one, room-busy, seen-more}
+use Rattle.trace_table.proofs.SeatShares.{share-is, seat-on, seat-taken, room-busy, seen-more}
 use Rattle.trace_table.proofs.table.TraceTable.try_block.Goals as goal
 
 pub returns-then-word-ne0-clause-seat : goal.returns-then-word-ne0-clause-seat
@@ -41,19 +41,8 @@ returns-clause-seat g c = let b : ℕ = g.C.About.index in let v : Share = c.arg
     let is = share-is _ _ (c.take_block-met.ensures.taken.0 c.if-met-ne0.false) ∙ ap (takes_after_full g.C.About.setup b) first in
     let same : b ≡ c.args.block = c.requires.about.1 in
     let size : blocks g.C.About.setup ≡ n = ap (λ (q : Setup). blocks q) (sym c.requires.about.0) in
-    let inside : b < n = (let a = c.requires.block.0 in omega arith) in
-    let start : c.address-seat.result ≡ block_start n b = (let a = c.address-seat.ensures in let l = c.requires.table.layout in omega arith) in record {
-      table = c.take_block-met.ensures.own ∙ c.look_at_block-word.ensures.own ∙ s.table;
-      live = subst (λ (u : Share). 0 < u.parts) (sym is) s.live;
-      worker = s.worker ∙ sym (ap (λ (u : Share). u.worker) is);
-      some = s.some;
-      few = s.few;
-      front = start ∙ ap (λ m. block_start m b) (sym size) ∙ sym (ap (λ (u : Share). u.front) is);
-      limit = ap (λ m. m + 4096) (start ∙ ap (λ m. block_start m b) (sym size)) ∙ sym (ap (λ (u : Share). u.limit) is);
-      order = omega arith;
-      from = λ below. omega arith;
-      within = omega arith;
-      filling = λ k has. ap (λ m. m + 4096) (start ∙ ap (block_start n) (only-one b k (subst (λ (u : Share). 0 < times k u.filling) is has)));
-      seen = λ k below. subst (λ (u : Share). 0 < times k u.busy) (sym is) (s.seen k below);
-      next = s.next;
-    }
+    let start : c.address-seat.result ≡ block_start n b = (let a = c.address-seat.ensures in let l = c.requires.table.layout in omega arith) in
+    let begins : block_start (blocks g.C.About.setup) b ≡ block_start n b = ap (λ m. block_start m b) size in
+    seat-taken c.args.self.now c.args.seat.now _ b (let a = c.requires.block.0 in omega arith) s (c.take_block-met.ensures.own ∙ c.look_at_block-word.ensures.own) refl refl
+    start (ap (λ m. m + 4096) start) (ap (λ (u : Share). u.parts) is) (ap (λ (u : Share). u.worker) is) (ap (λ (u : Share). u.front) is ∙ begins) (ap (λ (u : Share). u.limit) is ∙ ap (λ m. m + 4096) begins)
+    (ap (λ (u : Share). u.filling) is) (ap (λ (u : Share). u.busy) is)

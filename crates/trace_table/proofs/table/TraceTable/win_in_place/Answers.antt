@@ -17,7 +17,8 @@ returns-then-met-word-clause-seat g c = let x : ℕ = g.C.About.object in
 pub returns-then-met-word-clause-claims : goal.returns-then-met-word-clause-claims
 returns-then-met-word-clause-claims g c = let x : ℕ = g.C.About.object in
     let is = share-is _ _ (c.claim_in_place-met.ensures.claimed.1 c.if-met-word.true).1 in
-    looks-learnt x c.target_of.result c.args.seat.now.seat.me.0 _ (is ∙ ap (λ t. learns x t c.args.seat.now.seat.me.0) (sym c.target_of.ensures))
+    let learnt = looks-learnt x c.target_of.result c.args.seat.now.seat.me.0 _ (is ∙ ap (λ t. learns x t c.args.seat.now.seat.me.0) (sym c.target_of.ensures)) in
+    (learnt.0, learnt.1, young-by g.C.About.setup x c.args.word c.requires.may.before c.requires.may.young)
 
 pub returns-clause-seat : goal.returns-clause-seat
 returns-clause-seat g c = let x : ℕ = g.C.About.object in
@@ -29,7 +30,7 @@ pub returns-clause-claims : goal.returns-clause-claims
 returns-clause-claims g c = let p : Setup = g.C.About.setup in let x : ℕ = g.C.About.object in
     let ready : TraceMayBegin p = subst TraceMayBegin c.requires.about.0 c.requires.table.ready in
     wins-here p x g.C.About.cause c.args.seat.now.seat.me.0 _ _ (share-is _ _ (c.claim_in_place-met.ensures.claimed.0 c.if-met-word.false)) c.requires.spent
-    c.requires.about.1 c.requires.about.1 (let object : c.args.x ≡ x = c.requires.about.1 in let words : c.args.words ≡ size p x = c.requires.shape.0 in
+    c.requires.about.1 c.requires.about.1 c.requires.stays (let object : c.args.x ≡ x = c.requires.about.1 in let words : c.args.words ≡ size p x = c.requires.shape.0 in
     let end = ends_in_row p.before ready.lawful.order x c.requires.may.held in let from = c.requires.may.held.address.from in record {
       held = subst (IsHeld p.before) (sym object) c.requires.may.held;
       young = subst (λ y. stays_old p y ≡ false) (sym object) (young-by p x c.args.word c.requires.may.before c.requires.may.young);

@@ -17,7 +17,8 @@ returns-then-met-word-clause-seat g c = let x : ℕ = g.C.About.object in
 pub returns-then-met-word-clause-claims : goal.returns-then-met-word-clause-claims
 returns-then-met-word-clause-claims g c = let x : ℕ = g.C.About.object in
     let is = share-is _ _ (c.claim_and_move-met.ensures.claimed.1 c.if-met-word.true).1 in
-    looks-learnt x c.target_of.result c.args.seat.now.seat.me.0 _ (is ∙ ap (λ t. learns x t c.args.seat.now.seat.me.0) (sym c.target_of.ensures))
+    let learnt = looks-learnt x c.target_of.result c.args.seat.now.seat.me.0 _ (is ∙ ap (λ t. learns x t c.args.seat.now.seat.me.0) (sym c.target_of.ensures)) in
+    (learnt.0, learnt.1, young-by g.C.About.setup x c.args.word c.requires.may.before c.requires.may.young)
 
 pub returns-clause-seat : goal.returns-clause-seat
 returns-clause-seat g c = let p : Setup = g.C.About.setup in let x : ℕ = g.C.About.object in let s = c.requires.seat in
@@ -42,7 +43,7 @@ pub returns-clause-claims : goal.returns-clause-claims
 returns-clause-claims g c = let p : Setup = g.C.About.setup in let x : ℕ = g.C.About.object in let s = c.requires.seat in
     let same : blocks (setup_at c.args.self.now) ≡ blocks p = ap (λ (q : Setup). blocks q) c.requires.about.0 in
     wins-moved p x g.C.About.cause c.args.seat.now.seat.me.0 _ _ (share-is _ _ (c.claim_and_move-met.ensures.claimed.0 c.if-met-word.false)) c.requires.spent
-    c.requires.about.1 s.front (let fits = c.requires.room.fits in let front = s.front in let limit = s.limit in let within = s.within in let words : c.args.words ≡ size p x = c.requires.shape.0 in
+    c.requires.about.1 s.front c.requires.room (let fits = c.requires.room.fits in let front = s.front in let limit = s.limit in let within = s.within in let words : c.args.words ≡ size p x = c.requires.shape.0 in
     let object : c.args.x ≡ x = c.requires.about.1 in record {
       held = subst (IsHeld p.before) (sym object) c.requires.may.held;
       young = subst (λ y. stays_old p y ≡ false) (sym object) (young-by p x c.args.word c.requires.may.before c.requires.may.young);

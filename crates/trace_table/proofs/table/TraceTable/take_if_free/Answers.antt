@@ -1,0 +1,56 @@
+use Rattle.std.proofs.Common.{◌≡◌, ℕ, ◌+◌, ◌<◌, refl, sym, ap, ◌∙◌, subst, arith}
+use Rattle.heap_layout.specs.Zones.{block_start}
+use Rattle.trace_core.specs.Setups.{Setup, blocks}
+use Rattle.trace_words.specs.declared.share.Share.{Share}
+use Rattle.trace_words.specs.Shares.{sees_busy, takes_at_any_time}
+use Rattle.trace_table.specs.Seats.{setup_at}
+use Rattle.trace_table.proofs.SeatShares.{share-is, seat-on, seat-taken, room-busy, looks-busy, seen-more}
+use Rattle.trace_table.proofs.table.TraceTable.take_if_free.Goals as goal
+
+pub returns-then-word-ne0-clause-seat : goal.returns-then-word-ne0-clause-seat
+returns-then-word-ne0-clause-seat g c = let b : ℕ = g.C.About.index in
+    let is = share-is _ _ (c.look_at_block-word.ensures.block.1 c.if-word-ne0.true) in let v : Share = c.args.seat.now.seat.me.0 in
+    let same : b ≡ c.args.block = c.requires.about.1 in let at : c.args.seat.now.next_block ≡ c.args.block = c.requires.block.1 in
+    seat-on c.args.self.now c.args.seat.now _ c.requires.seat c.look_at_block-word.ensures.own refl refl refl (room-busy b v _ is)
+    (λ k below. seen-more b v _ is (λ j l. c.requires.seat.seen j (omega arith)) k (omega arith))
+    (let inside : c.args.block < blocks (setup_at c.args.self.now) = subst (λ (q : Setup). c.args.block < blocks q) (sym c.requires.about.0) c.requires.block.0 in omega arith)
+
+pub returns-then-word-ne0-clause-looks : goal.returns-then-word-ne0-clause-looks
+returns-then-word-ne0-clause-looks g c = λ none. looks-busy g.C.About.index _ _ (share-is _ _ (c.look_at_block-word.ensures.block.1 c.if-word-ne0.true))
+
+pub returns-then-word-ne0-clause-room : goal.returns-then-word-ne0-clause-room
+returns-then-word-ne0-clause-room g c = λ none. room-busy g.C.About.index _ _ (share-is _ _ (c.look_at_block-word.ensures.block.1 c.if-word-ne0.true))
+
+pub returns-then-met-ne0-clause-seat : goal.returns-then-met-ne0-clause-seat
+returns-then-met-ne0-clause-seat g c = let b : ℕ = g.C.About.index in let v : Share = c.args.seat.now.seat.me.0 in
+    let first = share-is _ _ (c.look_at_block-word.ensures.block.0 c.if-word-ne0.false) in
+    let is = share-is _ _ (c.take_block_at_any_time-met.ensures.taken.1 c.if-met-ne0.true) ∙ ap (sees_busy b) first in
+    let same : b ≡ c.args.block = c.requires.about.1 in let at : c.args.seat.now.next_block ≡ c.args.block = c.requires.block.1 in
+    seat-on c.args.self.now c.args.seat.now _ c.requires.seat (c.take_block_at_any_time-met.ensures.own ∙ c.look_at_block-word.ensures.own) refl refl refl (room-busy b v _ is)
+    (λ k below. seen-more b v _ is (λ j l. c.requires.seat.seen j (omega arith)) k (omega arith))
+    (let inside : c.args.block < blocks (setup_at c.args.self.now) = subst (λ (q : Setup). c.args.block < blocks q) (sym c.requires.about.0) c.requires.block.0 in omega arith)
+
+pub returns-then-met-ne0-clause-looks : goal.returns-then-met-ne0-clause-looks
+returns-then-met-ne0-clause-looks g c = λ none. looks-busy g.C.About.index _ _ (share-is _ _ (c.take_block_at_any_time-met.ensures.taken.1 c.if-met-ne0.true)
+    ∙ ap (sees_busy g.C.About.index) (share-is _ _ (c.look_at_block-word.ensures.block.0 c.if-word-ne0.false)))
+
+pub returns-then-met-ne0-clause-room : goal.returns-then-met-ne0-clause-room
+returns-then-met-ne0-clause-room g c = λ none. room-busy g.C.About.index _ _ (share-is _ _ (c.take_block_at_any_time-met.ensures.taken.1 c.if-met-ne0.true)
+    ∙ ap (sees_busy g.C.About.index) (share-is _ _ (c.look_at_block-word.ensures.block.0 c.if-word-ne0.false)))
+
+pub returns-clause-seat : goal.returns-clause-seat
+returns-clause-seat g c = let b : ℕ = g.C.About.index in let n : ℕ = blocks (setup_at c.args.self.now) in
+    let first = share-is _ _ (c.look_at_block-word.ensures.block.0 c.if-word-ne0.false) in
+    let is = share-is _ _ (c.take_block_at_any_time-met.ensures.taken.0 c.if-met-ne0.false) ∙ ap (takes_at_any_time g.C.About.setup b) first in
+    let same : b ≡ c.args.block = c.requires.about.1 in
+    let size : blocks g.C.About.setup ≡ n = ap (λ (q : Setup). blocks q) (sym c.requires.about.0) in
+    let start : c.address-seat.result ≡ block_start n b = (let a = c.address-seat.ensures in let l = c.requires.table.layout in omega arith) in
+    let begins : block_start (blocks g.C.About.setup) b ≡ block_start n b = ap (λ m. block_start m b) size in
+    seat-taken c.args.self.now c.args.seat.now _ b (let a = c.requires.block.0 in omega arith) c.requires.seat (c.take_block_at_any_time-met.ensures.own ∙ c.look_at_block-word.ensures.own) refl refl
+    start (ap (λ m. m + 4096) start) (ap (λ (u : Share). u.parts) is) (ap (λ (u : Share). u.worker) is) (ap (λ (u : Share). u.front) is ∙ begins) (ap (λ (u : Share). u.limit) is ∙ ap (λ m. m + 4096) begins)
+    (ap (λ (u : Share). u.filling) is) (ap (λ (u : Share). u.busy) is)
+
+pub returns-clause-taken : goal.returns-clause-taken
+returns-clause-taken g c = λ taken. share-is _ _ (c.take_block_at_any_time-met.ensures.taken.0 c.if-met-ne0.false)
+    ∙ ap (takes_at_any_time g.C.About.setup g.C.About.index) (share-is _ _ (c.look_at_block-word.ensures.block.0 c.if-word-ne0.false))
+    ∙ ap (λ b. takes_at_any_time g.C.About.setup b c.args.seat.now.seat.me.0) c.requires.about.1
