@@ -1,12 +1,13 @@
 //! Mutators on threads that allocate until no block has room.
 
-ghost use Rattle.std.specs.Prelude.{◌≡◌, ◌<◌, ◌≤◌, All, IfOk, length, map, true};
+ghost use Rattle.std.specs.Prelude.{◌≡◌, ◌+◌, ◌<◌, ◌≤◌, All, IfOk, length, map, true};
 ghost use Rattle.std.specs.Thread.{IsSync};
 ghost use Rattle.object_model.specs.Graphs.{numbers_of};
 ghost use Rattle.racing_world.specs.RacingSeats.{MayCall};
 ghost use Rattle.racing_world.specs.Answers.{births_of};
 ghost use Rattle.racing_world.specs.Calls.{epoch_of_world, number_of};
 
+use crate::walks::check_stop;
 use crate::worlds::{SHARED, number, plain_world};
 use mutator_calls::Allocated;
 use mutator_rule::MutatorSeat;
@@ -43,11 +44,11 @@ fn make_one<P: Plan>(world: &World<P>, seat: &mut MutatorSeat, shape: &Shape) ->
     requires call { MayCall P.rules world.now.row seat.old }
     requires few { births_of seat.old < MOST }
     requires refs { shape.now.refs ≤ 8 }
-    requires nums { shape.now.nums ≤ 100 }
+    requires size { shape.now.refs + shape.now.nums ≤ 2045 }
     ensures call { MayCall P.rules world.now.row seat.new }
     ensures number { number_of seat.new ≡ number_of seat.old }
 {
-    match world.new_in_free_blocks(seat, NEW, shape.refs, shape.nums) {
+    match world.new_object(seat, NEW, shape.refs, shape.nums) {
         Allocated::Made(_) => true,
         Allocated::Stop(_) => false,
     }
@@ -57,7 +58,7 @@ fn make_one<P: Plan>(world: &World<P>, seat: &mut MutatorSeat, shape: &Shape) ->
 fn fill<P: Plan>(world: &World<P>, seat: &mut MutatorSeat, shape: &Shape)
     requires call { MayCall P.rules world.now.row seat.old }
     requires refs { shape.now.refs ≤ 8 }
-    requires nums { shape.now.nums ≤ 100 }
+    requires size { shape.now.refs + shape.now.nums ≤ 2045 }
     ensures call { MayCall P.rules world.now.row seat.new }
     ensures number { number_of seat.new ≡ number_of seat.old }
 {
@@ -85,7 +86,7 @@ fn fill_together<P: Plan + Sync, R: Threads + Sync>(
     requires calls { All (MayCall P.rules world.now.row) seats.old }
     requires some { 0 < length seats.old }
     requires refs { shape.now.refs ≤ 8 }
-    requires nums { shape.now.nums ≤ 100 }
+    requires size { shape.now.refs + shape.now.nums ≤ 2045 }
     ensures calls { All (MayCall P.rules world.now.row) seats.new }
     ensures all { map number_of seats.new ≡ map number_of seats.old }
 {
@@ -96,7 +97,7 @@ fn fill_together<P: Plan + Sync, R: Threads + Sync>(
         threads,
         &|_: usize, seat: &mut MutatorSeat|
             requires { IsSync P.row × MayCall P.rules world.now.row seat.old
-                × (shape.now.refs ≤ 8) × (shape.now.nums ≤ 100) }
+                × (shape.now.refs ≤ 8) × (shape.now.refs + shape.now.nums ≤ 2045) }
             ensures { MayCall P.rules world.entry.now.row seat.new
                 × (number_of seat.new ≡ number_of seat.old) }
         {
@@ -162,7 +163,7 @@ fn check_counts<P: Plan>(rt: &impl Abort, world: &World<P>, seats: &mut Vec<Muta
     assert!(rt; counts(world, &mut seats[0], made));
 }
 
-// The mutators take as many Free blocks as they may, and no block twice.
+// The mutators take as many Free blocks as they may, and no block twice. Then no room is left.
 fn check_fill<P: Plan + Sync, R: Threads + Sync + Abort>(
     rt: &R,
     alloc: Global,
@@ -170,7 +171,7 @@ fn check_fill<P: Plan + Sync, R: Threads + Sync + Abort>(
     shape: &Shape,
 ) -> Result<(), Fail>
     requires refs { shape.now.refs ≤ 8 }
-    requires nums { shape.now.nums ≤ 100 }
+    requires size { shape.now.refs + shape.now.nums ≤ 2045 }
 {
     let (world, mut seats, room) = begun::<P>(rt, alloc, count)?;
     assert!(rt; seats.len() > 0);
@@ -182,7 +183,7 @@ fn check_fill<P: Plan + Sync, R: Threads + Sync + Abort>(
     assert!(rt; seats.len() > 0);
     let (heap, _) = world.close(alloc, seats)?;
     assert!(rt; block_counts(&heap).free.checked_add(room.limit) == Some(room.free));
-    Ok(())
+    check_stop::<P>(rt, alloc, &heap, shape)
 }
 
 #[test]
@@ -197,6 +198,25 @@ fn mutators_fill_free_blocks(rt: HostRuntime) -> Result<(), Fail> {
         check_fill::<GenCopy, _>(&rt, alloc, 16, &small)?;
         check_fill::<Immix, _>(&rt, alloc, 4, &small)?;
         check_fill::<StickyImmix, _>(&rt, alloc, 16, &large)?;
+    }
+    Ok(())
+}
+
+// The numbers of an object without references that fills a cell, by size class.
+const CELL_NUMS: [u32; 19] = [
+    1, 3, 5, 9, 13, 21, 29, 45, 61, 93, 125, 189, 253, 381, 509, 765, 1021, 1533, 2045,
+];
+
+#[test]
+fn mutators_fill_cells_of_all_classes(rt: HostRuntime) -> Result<(), Fail> {
+    let alloc = rt.alloc();
+    for nums in &CELL_NUMS {
+        assert!(rt; *nums <= 2045);
+        let shape = Shape {
+            refs: 0,
+            nums: *nums,
+        };
+        check_fill::<MarkSweep, _>(&rt, alloc, 4, &shape)?;
     }
     Ok(())
 }

@@ -14,4 +14,6 @@ mod races;
 #[cfg(test)]
 mod twins;
 #[cfg(test)]
+mod walks;
+#[cfg(test)]
 mod worlds;

@@ -81,6 +81,7 @@ first-rooms rules g m n v is blocks same first =
           let few : least ≡ 4097 = cc in omega arith) hole);
       owned = λ k owner region note. absurd (
           let wrong : Owned owner region ≡ Unowned 4097 = get-copy blocks (Unowned 4097) (Owned owner region) k (ap (λ (xs : List BlockNote). slice_get xs k) (sym first.blocks_noted) ∙ note) in cc);
+      noted = λ o among. absurd (contains-none o among);
       classes = ap (λ (l : LocalSeat). length l.blocks) first.local;
       each = λ class k note. absurd (none-there class k (ap (λ (l : LocalSeat). slice_get l.blocks class) (sym first.local) ∙ note));
       over = λ k note. absurd (let wrong : None ≡ Some k = ap (λ (l : LocalSeat). l.over) (sym first.local) ∙ note in cc);

@@ -101,6 +101,7 @@ module _ {P : Type 0} (rules : Rules) (w : World P) (a b : Racing P) (here : a.r
   sees-more = record {
     call = call;
     number = goes.number;
+    steps = goes.prefix;
     history = grown;
     run = λ i represents.
         let same : (view b).start ≡ start_of w.row = call.0.own.1 in

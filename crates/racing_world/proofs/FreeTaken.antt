@@ -34,7 +34,7 @@ use Rattle.racing_world.specs.SeatLaws.{makes-both}
 use Rattle.racing_world.specs.Rooms.{Holdings, HasRooms, HasRoomsIn, IsOwnRegion, AllocatesIn, UsesItsBlocks, UsesOthers}
 use Rattle.racing_world.specs.Births.{with_ticket}
 use Rattle.racing_world.specs.Looks.{with_block_word}
-use Rattle.racing_world.specs.Searches.{HasFound, NotesOwn, Searches}
+use Rattle.racing_world.specs.Searches.{HasFound, NotesOwn, Searches, TakesFree}
 use Rattle.racing_world.proofs.OwnRegions.{own-whole, own-as}
 use Rattle.racing_world.proofs.RoomsKept.{rooms-now}
 use Rattle.racing_world.proofs.RoomsMade.{rooms-own, found-own}
@@ -105,6 +105,14 @@ module _ {P : Type 0} (rules : Rules) (a l t b : Racing P) (k size word number :
     made = ap (λ (v : MutatorView). v.local.made) keeps.known_stays ∙ made-is;
   }
 
+  pub takes-b : TakesFree rules a b k class
+  takes-b = record {
+    owned = ap (λ (h : Holdings). h.owned) holds-b ∙ owns;
+    granted = ap (λ (h : Holdings). h.granted) holds-b ∙ ap (λ (x : Local). x.granted) took ∙ ap (λ (x : Local). k ∷ x.granted) loaded;
+    ticket = ap (λ (h : Holdings). h.ticket) holds-b ∙ ap (λ (x : Local). x.ticket) took;
+    free = subst (λ (s : EpochStart). HasKind (epoch_with rules s).before k kinds.Free) start free;
+  }
+
 -- notes of rooms do not depend on the ticket, but for the one that they have
 rooms-ticket : (p : Epoch) (s : HeapState) (h g : Holdings) (notes : List BlockNote) (x y : LocalSeat) (allowed : ℕ) → g.owned ≡ h.owned → g.made ≡ h.made → y.ticket ≡ g.ticket → y.blocks ≡ x.blocks → y.over ≡ x.over → HasRoomsIn p s h notes x allowed → HasRoomsIn p s g notes y allowed
 rooms-ticket p s h g notes x y allowed owned made ticket blocks over has = record {
@@ -113,6 +121,7 @@ rooms-ticket p s h g notes x y allowed owned made ticket blocks over has = recor
   len = has.len;
   unowned = has.unowned;
   owned = λ k owner region note. let was = has.owned k owner region note in (was.0, own-as p h g k was.0 region owned made was.1);
+  noted = λ o among. has.noted o (subst (λ (os : List OwnedBlock). Contains os o) owned among);
   classes = ap (λ (bs : List (Option ℕ)). length bs) blocks ∙ has.classes;
   each = λ class k is. allocates class k (has.each class k (ap (λ (bs : List (Option ℕ)). slice_get bs class) (sym blocks) ∙ is));
   over = λ k is. let was = has.over k (sym over ∙ is) in (was.0, allocates 0 k was.1);

@@ -15,6 +15,7 @@ pub mod WorldEnds
 pub mod WorldLaws
 pub mod Cleared
 pub mod RoomsKept
+pub mod KeptHoles
 pub mod OwnRegions
 pub mod RoomsNoted
 pub mod Noted
@@ -22,3 +23,15 @@ pub mod RoomsMade
 pub mod FreeTaken
 pub mod NewAnswered
 pub mod Searched
+pub mod OwnSeen
+pub mod OwnWords
+pub mod RestSeen
+pub mod OwnLacks
+pub mod OwnReturns
+pub mod Looked
+pub mod BlockViewed
+pub mod TakenUsed
+pub mod HolesPassed
+pub mod HolesTaken
+pub mod RoomLaws
+pub mod RoomTaken

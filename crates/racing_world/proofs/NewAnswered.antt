@@ -39,12 +39,15 @@ module _ {P : Type 0} (rules : Rules) (a b : Racing P) (d refs nums : ℕ) where
     name = is.name;
     births = is.births;
     small = is.small;
+    place = is.place;
+    takes = is.takes;
   }
   answers-new w here ready has rooms uses (Stop need) is = record {
     nothing = enters-none rules w a b here ready has is.takes.searches.makes (uses-then (Stop need) is uses) rooms;
     raised = is.takes.searches.raised;
     births = is.takes.searches.births;
     owned = is.takes.owned;
+    granted = is.takes.granted;
     made = is.takes.searches.made;
     ticket = is.takes.ticket;
     call = is.call;

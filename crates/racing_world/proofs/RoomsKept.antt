@@ -60,6 +60,7 @@ rooms-later p s t h notes local allowed grows has = record {
     | inr none ↦ inr none
   ];
   owned = has.owned;
+  noted = has.noted;
   classes = has.classes;
   each = has.each;
   over = has.over;

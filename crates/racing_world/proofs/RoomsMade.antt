@@ -34,7 +34,7 @@ use Rattle.racing_world.specs.RacingSeats.{view, local, holdings, epoch_of_racin
 use Rattle.racing_world.specs.Rooms.{Holdings, HasRooms, HasRoomsIn, IsOwnRegion}
 use Rattle.racing_world.specs.Births.{with_object}
 use Rattle.racing_world.specs.Searches.{HasRoomAt, HasFound, NotesOwn, seat_after}
-use Rattle.racing_world.proofs.OwnRegions.{block-is, own-rest, own-none, own-whole}
+use Rattle.racing_world.proofs.OwnRegions.{block-is, own-whole}
 use Rattle.racing_world.proofs.RoomsNoted.{rooms-advanced, rooms-taken}
 use Rattle.racing_world.proofs.RoomsKept.{rooms-now}
 use Rattle.racing_world.proofs.Noted.{cells-or}
@@ -42,7 +42,7 @@ use Rattle.racing_world.proofs.Noted.{cells-or}
 -- after an object at the start of the region of block k
 module _ {P : Type 0} (rules : Rules) (a : Racing P) (b : MutatorSeat) (k class owner size : ℕ) (region rest : Region) (es : List Entry) (has : HasRooms rules a.seat.now) (note : slice_get a.seat.now.notes.blocks.items k ≡ Some (Owned owner region))
     (own : IsOwnRegion (epoch_of_racing rules a) (holdings (local a)) k class region) (some : 0 < size) (room : region.next + size ≤ region.end)
-    (plain : rules.fill ≢ kinds.Cells → rest ≡ record { next = region.next + size; end = region.end }) (cells : rules.fill ≡ kinds.Cells → rest ≡ record { next = 4096; end = 4096 }) (goes : MakesEntries rules (view a) es (known b)) (told : KnowsLog (epoch_with rules (known b).start) (known b))
+    (left : (c : ℕ) → IsOwnRegion (epoch_of_racing rules a) (holdings (local a)) k c region → IsOwnRegion (epoch_of_racing rules a) (with_object (holdings (local a)) (record { address = block_start (epoch_of_racing rules a).before.blocks k + region.next; size = size })) k c rest) (goes : MakesEntries rules (view a) es (known b)) (told : KnowsLog (epoch_with rules (known b).start) (known b))
     (holds : holdings (local_of b) ≡ with_object (holdings (local a)) (record { address = block_start (epoch_of_racing rules a).before.blocks k + region.next; size = size }))
     (blocks : b.notes.blocks.items ≡ slice_set a.seat.now.notes.blocks.items k (Owned owner rest)) (seat : b.notes.local ≡ a.seat.now.notes.local) (allows : b.notes.allowance ≡ a.seat.now.notes.allowance) where
   abbrev p : Epoch
@@ -53,12 +53,6 @@ module _ {P : Type 0} (rules : Rules) (a : Racing P) (b : MutatorSeat) (k class 
 
   abbrev x : Extent
   x = record { address = block_start (epoch_of_racing rules a).before.blocks k + region.next; size = size }
-
-  left : (c : ℕ) → IsOwnRegion p h k c region → IsOwnRegion p (with_object h x) k c rest
-  left c is = elim (cells-or rules.fill) as (λ _. IsOwnRegion p (with_object h x) k c rest) [
-    | inl f ↦ subst (λ (r : Region). IsOwnRegion p (with_object h x) k c r) (sym (cells f)) (own-none p h k c size region is some room)
-    | inr f ↦ subst (λ (r : Region). IsOwnRegion p (with_object h x) k c r) (sym (plain f)) (own-rest p h k c size region is some room f)
-  ]
 
   pub rooms-made : HasRooms rules b
   rooms-made =

@@ -1,5 +1,5 @@
 -- Notes of rooms as a mutator changes one: it allocates in a region, takes a block, or draws a ticket.
-use Rattle.std.proofs.Common.{◌≡◌, ◌≢◌, refl, sym, ◌∙◌, ap, subst, ℕ, ◌+◌, ◌<◌, ◌≤◌, ◌⊎◌, inl, inr, arith, Option, List, ◌∷◌, length, slice_get}
+use Rattle.std.proofs.Common.{◌≡◌, ◌≢◌, refl, sym, ◌∙◌, ap, subst, ℕ, ◌+◌, ◌<◌, ◌≤◌, ◌⊎◌, inl, inr, ⊎_elim, arith, Option, List, ◌∷◌, length, length-set, slice_get}
 use Rattle.std.specs.Prelude.{Some, None, slice_set, unwrap_or}
 use Rattle.std.specs.List.{Contains}
 use Rattle.std.proofs.lemmas.Bool.{cases_eq}
@@ -24,32 +24,37 @@ use Rattle.local_allocators.proofs.SeatRegions.{lines-for}
 use Rattle.mutator_core.specs.declared.state.Extent.{Extent}
 use Rattle.mutator_core.specs.declared.state.OwnedBlock.{OwnedBlock}
 use Rattle.mutator_core.specs.Machine.{Epoch}
-use Rattle.racing_world.specs.Rooms.{Holdings, HasRoomsIn, AllocatesIn, IsOwnRegion}
+use Rattle.mutator_core.proofs.Lists.{contains-cases}
+use Rattle.racing_world.specs.Rooms.{Holdings, HasRoomsIn, AllocatesIn, IsOwnRegion, HasOwnNote}
 use Rattle.racing_world.specs.Births.{with_object}
 use Rattle.racing_world.proofs.OwnRegions.{own-beside, own-more}
 
 owned-owner-is : (o o' : ℕ) (r r' : Region) → Owned o r ≡ Owned o' r' → r ≡ r'
 owned-owner-is o o' r r' e = cc
 
-same-region : (notes : List BlockNote) (k o o' : ℕ) (r r' : Region) → slice_get notes k ≡ Some (Owned o r) → slice_get notes k ≡ Some (Owned o' r') → r ≡ r'
+pub same-region : (notes : List BlockNote) (k o o' : ℕ) (r r' : Region) → slice_get notes k ≡ Some (Owned o r) → slice_get notes k ≡ Some (Owned o' r') → r ≡ r'
 same-region notes k o o' r r' one two = owned-owner-is o o' r r' (one-element (slice_get notes k) (Owned o r) (Owned o' r') one two)
 
--- an object was allocated at the start of the region of block k, of which this rest is left
-module _ (p : Epoch) (s : HeapState) (h : Holdings) (notes : List BlockNote) (local : LocalSeat) (allowed : ℕ) (has : HasRoomsIn p s h notes local allowed) (k owner : ℕ) (region rest : Region) (x : Extent)
-    (note : slice_get notes k ≡ Some (Owned owner region)) (here : block_at p.before.blocks x.address ≡ k) (left : (class : ℕ) → IsOwnRegion p h k class region → IsOwnRegion p (with_object h x) k class rest) where
+-- a block has a note with a region after block k got one
+noted-more : (notes now : List BlockNote) (k owner : ℕ) (region : Region) → ChangesAt notes now k (Owned owner region) → (j : ℕ) → HasOwnNote notes j → HasOwnNote now j
+noted-more notes now k owner region changes j has = elim (cases_eq j k) as (λ _. HasOwnNote now j) [
+  | inl same ↦ subst (HasOwnNote now) (sym same) (record { owner = owner; region = region; note = changes.here })
+  | inr other ↦ record { owner = has.owner; region = has.region; note = changes.others j other ∙ has.note }
+]
+
+-- The mutator has a rest of block k in place of its region: it allocated there, or a later hole is its region.
+module _ (p : Epoch) (s : HeapState) (h g : Holdings) (notes : List BlockNote) (local : LocalSeat) (allowed : ℕ) (has : HasRoomsIn p s h notes local allowed) (k owner number : ℕ) (region rest : Region) (owned : g.owned ≡ h.owned) (ticket : g.ticket ≡ h.ticket)
+    (note : slice_get notes k ≡ Some (Owned owner region)) (beside : (j class : ℕ) (r : Region) → j ≢ k → IsOwnRegion p h j class r → IsOwnRegion p g j class r) (left : (class : ℕ) → IsOwnRegion p h k class region → IsOwnRegion p g k class rest) where
   abbrev later : List BlockNote
-  later = slice_set notes k (Owned owner rest)
+  later = slice_set notes k (Owned number rest)
 
-  changes : ChangesAt notes later k (Owned owner rest)
-  changes = set-changes notes k (Owned owner rest) (get-below notes k (Owned owner region) note)
+  changes : ChangesAt notes later k (Owned number rest)
+  changes = set-changes notes k (Owned number rest) (get-below notes k (Owned owner region) note)
 
-  beside : (j class : ℕ) (r : Region) → j ≢ k → IsOwnRegion p h j class r → IsOwnRegion p (with_object h x) j class r
-  beside j class r other own = own-beside p h x j class r (λ same. other (sym same ∙ here)) own
-
-  allocates : (class j : ℕ) → AllocatesIn p h notes class j → AllocatesIn p (with_object h x) later class j
-  allocates class j a = elim (cases_eq j k) as (λ _. AllocatesIn p (with_object h x) later class j) [
-    | inl same ↦ subst (λ (q : ℕ). AllocatesIn p (with_object h x) later class q) (sym same) (record {
-      owner = owner;
+  allocates : (class j : ℕ) → AllocatesIn p h notes class j → AllocatesIn p g later class j
+  allocates class j a = elim (cases_eq j k) as (λ _. AllocatesIn p g later class j) [
+    | inl same ↦ subst (λ (q : ℕ). AllocatesIn p g later class q) (sym same) (record {
+      owner = number;
       region = rest;
       note = changes.here;
       room = left class (subst (λ (r : Region). IsOwnRegion p h k class r) (same-region notes k a.owner owner a.region region (subst (λ (q : ℕ). slice_get notes q ≡ Some (Owned a.owner a.region)) same a.note) note)
@@ -58,23 +63,53 @@ module _ (p : Epoch) (s : HeapState) (h : Holdings) (notes : List BlockNote) (lo
     | inr other ↦ record { owner = a.owner; region = a.region; note = changes.others j other ∙ a.note; room = beside j class a.region other a.room }
   ]
 
-  pub rooms-advanced : HasRoomsIn p s (with_object h x) later local allowed
-  rooms-advanced = record {
+  pub rooms-moved : HasRoomsIn p s g later local allowed
+  rooms-moved = record {
     allows = has.allows;
-    ticket = has.ticket;
+    ticket = has.ticket ∙ sym ticket;
     len = changes.len ∙ has.len;
-    unowned = λ j least is. elim (changes-cases notes later k (Owned owner rest) changes j (Unowned least) is) as (λ _. (0 < owner_at s j) ⊎ ((at size : ℕ) → least ≤ size → HasHole p.rules.fill p.before j at size → ⊥)) [
-      | inl now ↦ absurd (let wrong : Unowned least ≡ Owned owner rest = now.1 in cc)
+    unowned = λ j least is. elim (changes-cases notes later k (Owned number rest) changes j (Unowned least) is) as (λ _. (0 < owner_at s j) ⊎ ((at size : ℕ) → least ≤ size → HasHole p.rules.fill p.before j at size → ⊥)) [
+      | inl now ↦ absurd (let wrong : Unowned least ≡ Owned number rest = now.1 in cc)
       | inr other ↦ has.unowned j least other.1
     ];
-    owned = λ j o r is. elim (changes-cases notes later k (Owned owner rest) changes j (Owned o r) is) as (λ _. (class : ℕ) × IsOwnRegion p (with_object h x) j class r) [
-      | inl now ↦ (let was = has.owned k owner region note in (was.0, subst (λ (q : Region). IsOwnRegion p (with_object h x) j was.0 q) (sym (owned-owner-is o owner r rest now.1)) (subst (λ (q : ℕ). IsOwnRegion p (with_object h x) q was.0 rest) (sym now.0) (left was.0 was.1))))
+    owned = λ j o r is. elim (changes-cases notes later k (Owned number rest) changes j (Owned o r) is) as (λ _. (class : ℕ) × IsOwnRegion p g j class r) [
+      | inl now ↦ (let was = has.owned k owner region note in (was.0, subst (λ (q : Region). IsOwnRegion p g j was.0 q) (sym (owned-owner-is o number r rest now.1)) (subst (λ (q : ℕ). IsOwnRegion p g q was.0 rest) (sym now.0) (left was.0 was.1))))
       | inr other ↦ (let was = has.owned j o r other.1 in (was.0, beside j was.0 r other.0 was.1))
     ];
+    noted = λ o among. noted-more notes later k number rest changes o.block (has.noted o (subst (λ (os : List OwnedBlock). Contains os o) owned among));
     classes = has.classes;
     each = λ class j b. allocates class j (has.each class j b);
     over = λ j b. ((has.over j b).0, allocates 0 j (has.over j b).1);
   }
+
+-- an object was allocated at the start of the region of block k, of which this rest is left
+pub rooms-advanced : (p : Epoch) (s : HeapState) (h : Holdings) (notes : List BlockNote) (local : LocalSeat) (allowed : ℕ) → HasRoomsIn p s h notes local allowed → (k owner : ℕ) (region rest : Region) (x : Extent)
+    → slice_get notes k ≡ Some (Owned owner region) → block_at p.before.blocks x.address ≡ k → ((class : ℕ) → IsOwnRegion p h k class region → IsOwnRegion p (with_object h x) k class rest)
+    → HasRoomsIn p s (with_object h x) (slice_set notes k (Owned owner rest)) local allowed
+rooms-advanced p s h notes local allowed has k owner region rest x note here left =
+    rooms-moved p s h (with_object h x) notes local allowed has k owner owner region rest refl refl note (λ j class r other own. own-beside p h x j class r (λ same. other (sym same ∙ here)) own) left
+
+-- the mutator allocates objects of the class in block k from now on, where it has a region for them
+pub rooms-returned : (p : Epoch) (s : HeapState) (h : Holdings) (notes : List BlockNote) (local : LocalSeat) (allowed class k : ℕ) → HasRoomsIn p s h notes local allowed → class < 19 → AllocatesIn p h notes class k
+    → HasRoomsIn p s h notes (record { ticket = local.ticket; blocks = slice_set local.blocks class (Some k); over = local.over }) allowed
+rooms-returned p s h notes local allowed class k has few here = record {
+  allows = has.allows;
+  ticket = has.ticket;
+  len = has.len;
+  unowned = has.unowned;
+  owned = has.owned;
+  noted = has.noted;
+  classes = length-set local.blocks class (Some k) ∙ has.classes;
+  each = λ c j is. elim (cases_eq c class) as (λ _. AllocatesIn p h notes c j) [
+    | inl same ↦ (
+        let e : Some k ≡ Some j = one-element (slice_get (slice_set local.blocks class (Some k)) class) (Some k) (Some j)
+        (set-here local.blocks class (Some k) (subst (λ (n : ℕ). class < n) (sym has.classes) few)) (subst (λ (q : ℕ). slice_get (slice_set local.blocks class (Some k)) q ≡ Some (Some j)) same is) in
+        let is-k : k ≡ j = cc in
+        subst (λ (q : ℕ). AllocatesIn p h notes q j) (sym same) (subst (λ (q : ℕ). AllocatesIn p h notes class q) is-k here))
+    | inr other ↦ has.each c j (sym (set-other local.blocks class (Some k) c other) ∙ is)
+  ];
+  over = has.over;
+}
 
 -- the mutator took block k, whose region this is, and perhaps used its ticket
 module _ (p : Epoch) (s t : HeapState) (h g : Holdings) (notes : List BlockNote) (local now : LocalSeat) (allowed : ℕ) (has : HasRoomsIn p s h notes local allowed) (k class owner : ℕ) (region : Region)
@@ -119,6 +154,10 @@ module _ (p : Epoch) (s t : HeapState) (h g : Holdings) (notes : List BlockNote)
       | inl here ↦ (class, subst (λ (q : Region). IsOwnRegion p g j class q) (sym (owned-owner-is o owner r region here.1)) (subst (λ (q : ℕ). IsOwnRegion p g q class region) (sym here.0) own))
       | inr other ↦ (let was = has.owned j o r other.1 in (was.0, more j was.0 r was.1))
     ];
+    noted = λ o among. ⊎_elim
+        (λ (same : o ≡ record { block = k; class = class }). subst (HasOwnNote after) (ap (λ (q : OwnedBlock). q.block) (sym same)) (record { owner = owner; region = region; note = noted.here }))
+        (λ (old : Contains h.owned o). noted-more notes after k owner region noted o.block (has.noted o old))
+        (contains-cases (record { block = k; class = class }) h.owned o (subst (λ (os : List OwnedBlock). Contains os o) owned among));
     classes = long ∙ has.classes;
     each = λ c j b. elim (blocks c j b) as (λ _. AllocatesIn p g after c j) [
       | inl new ↦ subst (λ (q : ℕ). AllocatesIn p g after q j) (sym new.0) (subst (λ (q : ℕ). AllocatesIn p g after class q) (sym new.1) takes)
@@ -144,6 +183,10 @@ module _ (p : Epoch) (s : HeapState) (h : Holdings) (notes : List BlockNote) (lo
     blocks = λ class k b. noted-below class k (has.each class k b);
     over = λ k lines b. noted-below 0 k (has.over k b).1;
   }
+
+  -- the block of the hole region, or of the class 0
+  pub hole-allocates : (k : ℕ) → block_of (Some local) 0 ≡ Some k → AllocatesIn p h notes 0 k
+  hole-allocates k b = has.each 0 k (block-read local.blocks 0 k b)
 
   order-at : (class k : ℕ) → AllocatesIn p h notes class k → (region_of notes (Some k)).next ≤ (region_of notes (Some k)).end
   order-at class k a = subst (λ (o : Option BlockNote). (region_noted o).next ≤ (region_noted o).end) (sym a.note) a.room.order

@@ -21,7 +21,7 @@ use Rattle.racing_world.specs.declared.racing.Racing.{Racing}
 use Rattle.racing_world.specs.RacingSeats.{view, local, Holdings, holdings, epoch_of_racing, IsReady, Makes}
 use Rattle.racing_world.specs.SeatLaws.{makes-nothing, makes-both}
 use Rattle.racing_world.specs.Rooms.{UsesItsBlocks, UsesOthers}
-use Rattle.racing_world.specs.Searches.{Searches, TakesNothing, Allocates}
+use Rattle.racing_world.specs.Searches.{Searches, TakesNothing, Allocates, PlacesObject, TakesRoom}
 use Rattle.racing_world.proofs.Allocated.{then-enters}
 
 module _ {P : Type 0} (rules : Rules) where
@@ -71,11 +71,14 @@ module _ {P : Type 0} (rules : Rules) where
 
   -- an object that is allocated after a search
   pub allocates-after : (a m b : Racing P) (d refs nums : ℕ) (n : Name) → Searches rules a m → Makes rules m (entry (local m).number (command.New d refs nums) (reply.New n) ∷ []) b → n ≡ next_name (local m)
-      → (local b).births ≡ (local m).births + 1 → (local b).raised ≡ (local m).raised → size_of refs nums ≤ 2048 → Allocates rules a d refs nums n b
-  allocates-after a m b d refs nums n x makes is births raised small = record {
+      → (local b).births ≡ (local m).births + 1 → (local b).raised ≡ (local m).raised → size_of refs nums ≤ 2048
+      → PlacesObject rules a.seat.now d (size_of refs nums) b.seat.now → TakesRoom rules a.seat.now (size_of refs nums) b.seat.now → Allocates rules a d refs nums n b
+  allocates-after a m b d refs nums n x makes is births raised small place takes = record {
     makes = then-enters rules a m b (command.New d refs nums) (local m).number (local a).number (reply.New n) (reply.New n) x.makes.goes.number refl x.makes makes;
     name = is ∙ (λ k. name (x.makes.goes.number k) (x.births k + 1));
     births = births ∙ ap (λ q. q + 1) x.births;
     raised = raised ∙ x.raised;
     small = small;
+    place = place;
+    takes = takes;
   }

@@ -1,4 +1,4 @@
--- What the call that allocates in Free blocks promises.
+-- What the call that allocates an object promises.
 use Rattle.std.specs.Prelude.{◌≡◌, ℕ, ◌+◌, ◌<◌, ◌≤◌, Some}
 use Rattle.ideal_heap.specs.declared.command.Command.TheVariants as c
 use Rattle.ideal_heap.specs.declared.reply.Reply.TheVariants as r
@@ -11,9 +11,10 @@ use Rattle.mutator_calls.specs.declared.need.Allocated.{Allocated}
 use Rattle.mutator_calls.specs.Allocating.{IsNeedOf, MatchAllocated}
 use Rattle.mutator_core.specs.Machine.{next_name}
 use Rattle.mutator_rule.specs.declared.seat.MutatorSeat.{MutatorSeat}
-use Rattle.mutator_rule.specs.Seats.{local_of, epoch_of_seat}
+use Rattle.mutator_rule.specs.Seats.{local_of}
 use Rattle.racing_world.specs.declared.world.World.{World}
-use Rattle.racing_world.specs.Searches.{IsCauseIn}
+use Rattle.racing_world.specs.NoRoom.{IsCauseFor}
+use Rattle.racing_world.specs.Searches.{PlacesObject, TakesRoom}
 use Rattle.racing_world.specs.Calls.{EntersOnce, EntersNothing, has_raised}
 
 -- how many objects the mutator has allocated
@@ -28,9 +29,11 @@ module _ {P : Type 0} where
     pub name : n ≡ next_name (local_of old)
     pub births : births_of new ≡ births_of old + 1
     pub small : size_of refs nums ≤ MAX_MEDIUM_WORDS
+    pub place : PlacesObject rules old d (size_of refs nums) new
+    pub takes : TakesRoom rules old (size_of refs nums) new
 
-  -- No object was allocated: the mutator is to stop with this need. The object is large, or the
-  -- mutator's ticket is not below the allowance.
+  -- No object was allocated: the mutator is to stop with this need. The object is large, or there
+  -- is no room for it and the mutator's ticket is not below the allowance.
   pub record StopsAtNeed (rules : Rules) (w : World P) (old : MutatorSeat) (d refs nums : ℕ)
       (need : Need) (new : MutatorSeat) : Type 0 where
     pub nothing : EntersNothing rules w old new
@@ -38,10 +41,11 @@ module _ {P : Type 0} where
     -- it has the blocks and objects that it had, and its unused ticket
     pub births : births_of new ≡ births_of old
     pub owned : (local_of new).owned ≡ (local_of old).owned
+    pub granted : (local_of new).granted ≡ (local_of old).granted
     pub made : (local_of new).made ≡ (local_of old).made
     pub ticket : (t : ℕ) → (local_of old).ticket ≡ Some t → (local_of new).ticket ≡ Some t
     pub call : IsNeedOf d refs nums need
-    pub cause : IsCauseIn (epoch_of_seat rules new) (local_of new) (size_of refs nums) need.cause
+    pub cause : IsCauseFor rules new (size_of refs nums) need.cause
 
   abbrev pub AnswersNew : Rules → World P → MutatorSeat → ℕ → ℕ → ℕ → Allocated → MutatorSeat
       → Type 0

@@ -1,5 +1,6 @@
 -- What the calls of a world promise.
 use Rattle.std.specs.Prelude.{◌≡◌, ℕ, ◌<◌, Bool, true, false, Some, None, slice_get, List, [], ◌∷◌, ◌++◌}
+use mathlib.Core.List.{IsPrefix}
 use Rattle.ideal_heap.specs.Ideal.{IdealHeap}
 use Rattle.ideal_heap.specs.Runs.{Entry, entry, IsRun}
 use Rattle.ideal_heap.specs.declared.command.Command.{Command}
@@ -48,12 +49,13 @@ module _ {P : Type 0} where
   abbrev pub epoch_of_world : Rules → World P → Epoch
   epoch_of_world rules w = epoch_with rules (start_of w.row)
 
-  -- The seat has seen more of the one history. What it has seen is a run from every ideal heap that
+  -- The seat has seen more steps, and so more of the one history. What it has seen is a run from every ideal heap that
   -- heap and mutators represented as the epoch began. A stop that it has seen stands.
   pub record SeesMore (rules : Rules) (w : World P) (old : MutatorSeat) (since : List Entry)
       (new : MutatorSeat) : Type 0 where
     pub call : MayCall rules w.row new
     pub number : number_of new ≡ number_of old
+    pub steps : IsPrefix (known old).seen (known new).seen
     pub history : history_at rules new ≡ history_at rules old ++ since
     pub run : (i : IdealHeap)
         → Represents (epoch_of_world rules w).before (epoch_of_world rules w).mutators i

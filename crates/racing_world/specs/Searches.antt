@@ -1,27 +1,30 @@
 -- What a search for room leaves.
-use Rattle.std.specs.Prelude.{◌≡◌, ℕ, ◌+◌, ◌<◌, ◌≤◌, Bool, true, false, Option, Some, slice_get, slice_set, List, [], ◌∷◌}
+use Rattle.std.specs.Prelude.{◌≡◌, ℕ, ◌+◌, ◌<◌, ◌≤◌, ◌⊎◌, Bool, true, false, Option, Some, None, slice_get, slice_set, List, [], ◌∷◌}
 use Rattle.heap_layout.specs.declared.region.Region.{Region}
+use Rattle.heap_layout.specs.declared.block.Kind.TheVariants as kinds
 use Rattle.block_regions.specs.declared.block_notes.BlockNote.{BlockNote}
 use Rattle.block_regions.specs.declared.block_notes.BlockNote.TheVariants.{Owned}
 use Rattle.local_allocators.specs.declared.local_seat.LocalSeat.{LocalSeat}
+use Rattle.local_allocators.specs.MutatorRegions.{Overflows}
 use Rattle.mutator_rule.specs.declared.seat_notes.SeatNotes.{SeatNotes}
 use Rattle.ideal_heap.specs.declared.command.Command.TheVariants as c
 use Rattle.ideal_heap.specs.declared.reply.Reply.TheVariants as r
 use Rattle.ideal_heap.specs.declared.name.Name.{Name}
 use Rattle.ideal_heap.specs.Runs.{entry}
-use Rattle.object_model.specs.Objects.{size_of}
+use Rattle.object_model.specs.Objects.{size_of, HasKind}
 use Rattle.object_model.specs.declared.shape.TheConstants.{MAX_MEDIUM_WORDS}
+use Rattle.sessions.specs.Fitting.{class_for}
 use Rattle.sessions.specs.Plans.{Rules}
 use Rattle.mutator_calls.specs.declared.need.Need.{Need}
-use Rattle.mutator_calls.specs.declared.need.NeedCause.{NeedCause}
-use Rattle.mutator_calls.specs.declared.need.NeedCause.TheVariants.{Large, Budget}
 use Rattle.mutator_calls.specs.Allocating.{IsNeedOf}
-use Rattle.mutator_core.specs.declared.state.Local.{Local}
-use Rattle.mutator_core.specs.Guards.{allowance}
-use Rattle.mutator_core.specs.Machine.{Epoch, next_name}
+use Rattle.mutator_core.specs.Guards.{IsPlaceOfMutator, BeginsRegion, allowance}
+use Rattle.mutator_core.specs.Machine.{Epoch, address_in, next_name}
+use Rattle.mutator_rule.specs.declared.seat.MutatorSeat.{MutatorSeat}
+use Rattle.mutator_rule.specs.Seats.{local_of, epoch_of_seat}
 use Rattle.racing_world.specs.declared.racing.Racing.{Racing}
 use Rattle.racing_world.specs.RacingSeats.{Makes, local, holdings, epoch_of_racing}
 use Rattle.racing_world.specs.Rooms.{Holdings, IsOwnRegion}
+use Rattle.racing_world.specs.NoRoom.{regions_at, LacksUnowned, LacksTriedRegions, IsCauseFor}
 
 -- what the mutator has for allocation after it took block k for objects of the class, or, if `over`,
 -- for its overflow region
@@ -48,12 +51,67 @@ pub record HasRoomAt (p : Epoch) (h : Holdings) (notes : List BlockNote) (class 
   pub own : IsOwnRegion p h k class region
   pub room : region.next + size ≤ region.end
 
--- Why an allocation of this size stops: the object is large; or the mutator's ticket is not below
--- the allowance.
-abbrev pub IsCauseIn : Epoch → Local → ℕ → NeedCause → Type 0
-IsCauseIn p l size Large = MAX_MEDIUM_WORDS < size
-IsCauseIn p l size (Budget t) =
-    (size ≤ MAX_MEDIUM_WORDS) × (l.ticket ≡ Some t) × (allowance p ≤ t)
+-- The mutator took no Free block for room of this size. A ticket that it had stays. None was drawn
+-- but in overflow allocation, and then it is not below the allowance.
+pub record KeepsTicket (rules : Rules) (old : MutatorSeat) (size : ℕ) (new : MutatorSeat) : Type 0
+  where
+    pub kept : (t : ℕ) → (local_of old).ticket ≡ Some t → (local_of new).ticket ≡ Some t
+    pub drawn : ((local_of new).ticket ≡ (local_of old).ticket)
+        ⊎ (Overflows rules.fill (regions_at old) size × ((t : ℕ)
+        × ((local_of new).ticket ≡ Some t) × (allowance (epoch_of_seat rules old) ≤ t)))
+
+-- It took this block, which was not Free and nobody's, where no region that it tries had room.
+pub record TakesUnowned (rules : Rules) (old : MutatorSeat) (size : ℕ) (new : MutatorSeat) : Type 0
+  where
+    pub block : ℕ
+    pub owned : (local_of new).owned
+        ≡ record { block = block; class = class_for rules.fill size } ∷ (local_of old).owned
+    pub granted : (local_of new).granted ≡ (local_of old).granted
+    pub used : HasKind (epoch_of_seat rules old).before block kinds.Free → ⊥
+    pub ticket : KeepsTicket rules old size new
+    pub full : LacksTriedRegions rules old size
+
+-- It took this Free block, where no region that it tries had room, with its ticket or one that it
+-- drew: either in overflow allocation, or no block that nobody owns has a hole for the size.
+pub record TakesFreeBlock (rules : Rules) (old : MutatorSeat) (size : ℕ) (new : MutatorSeat)
+    : Type 0 where
+  pub block : ℕ
+  pub owned : (local_of new).owned
+      ≡ record { block = block; class = class_for rules.fill size } ∷ (local_of old).owned
+  pub granted : (local_of new).granted ≡ block ∷ (local_of old).granted
+  pub free : HasKind (epoch_of_seat rules old).before block kinds.Free
+  pub ticket : (local_of new).ticket ≡ None
+  pub good : (t : ℕ) → (local_of old).ticket ≡ Some t → t < allowance (epoch_of_seat rules old)
+  pub full : LacksTriedRegions rules old size
+  pub last : Overflows rules.fill (regions_at old) size ⊎ LacksUnowned rules new size
+
+-- What the mutator took for room of this size.
+pub data TakesRoom (rules : Rules) (old : MutatorSeat) (size : ℕ) (new : MutatorSeat) : Type 0
+  where
+    -- nothing: a region or one of its own blocks had room
+    takes_nothing : (local_of new).owned ≡ (local_of old).owned
+        → (local_of new).granted ≡ (local_of old).granted → KeepsTicket rules old size new
+        → TakesRoom rules old size new
+    takes_hole : TakesUnowned rules old size new → TakesRoom rules old size new
+    takes_free : TakesFreeBlock rules old size new → TakesRoom rules old size new
+
+-- It took no block, and drew no ticket.
+pub record KeepsBlocks (old new : MutatorSeat) : Type 0 where
+  pub owned : (local_of new).owned ≡ (local_of old).owned
+  pub granted : (local_of new).granted ≡ (local_of old).granted
+  pub ticket : (local_of new).ticket ≡ (local_of old).ticket
+
+-- The mutator's new object of this size is the one in register d. It lies in a block of the
+-- mutator's, at the start of a hole or of a block that was Free, or directly after an object that
+-- the mutator had allocated; in cells it has its own.
+pub record PlacesObject (rules : Rules) (old : MutatorSeat) (d size : ℕ) (new : MutatorSeat)
+    : Type 0 where
+  pub made : (local_of new).made
+      ≡ record { address = address_in (local_of new) d; size = size } ∷ (local_of old).made
+  pub place : IsPlaceOfMutator (epoch_of_seat rules old) (local_of new).owned
+      (address_in (local_of new) d) size
+  pub front : BeginsRegion (epoch_of_seat rules old) (local_of old).made
+      (address_in (local_of new) d) size
 
 module _ {P : Type 0} where
   -- the mutator has such room
@@ -69,12 +127,34 @@ module _ {P : Type 0} where
     pub births : (local b).births ≡ (local a).births
     pub made : (local b).made ≡ (local a).made
 
-  -- And it took no block.
+  -- The mutator searched and took no block.
   pub record TakesNothing (rules : Rules) (a b : Racing P) : Type 0 where
     pub searches : Searches rules a b
     pub owned : (local b).owned ≡ (local a).owned
+    pub granted : (local b).granted ≡ (local a).granted
     -- an unused ticket stays
     pub ticket : (t : ℕ) → (local a).ticket ≡ Some t → (local b).ticket ≡ Some t
+
+  -- It took this block, which was not Free, for objects of the class.
+  pub record TakesHole (rules : Rules) (a b : Racing P) (block class : ℕ) : Type 0 where
+    pub owned : (local b).owned ≡ record { block = block; class = class } ∷ (local a).owned
+    pub granted : (local b).granted ≡ (local a).granted
+    pub ticket : (local b).ticket ≡ (local a).ticket
+    pub used : HasKind (epoch_of_racing rules a).before block kinds.Free → ⊥
+
+  -- It took at most one block, for a hole with room for the size: this one. If it took that, no
+  -- region that it tries had room. Its ticket stays.
+  pub record TakesOneHole (rules : Rules) (a b : Racing P) (block size : ℕ) : Type 0 where
+    pub ticket : (local b).ticket ≡ (local a).ticket
+    pub takes : TakesNothing rules a b ⊎ (TakesHole rules a b block (class_for rules.fill size)
+        × LacksTriedRegions rules a.seat.now size)
+
+  -- It took this Free block for objects of the class, with its ticket.
+  pub record TakesFree (rules : Rules) (a b : Racing P) (block class : ℕ) : Type 0 where
+    pub owned : (local b).owned ≡ record { block = block; class = class } ∷ (local a).owned
+    pub granted : (local b).granted ≡ block ∷ (local a).granted
+    pub ticket : (local b).ticket ≡ None
+    pub free : HasKind (epoch_of_racing rules a).before block kinds.Free
 
   -- an object of this name was allocated in register d
   pub record Allocates (rules : Rules) (a : Racing P) (d refs nums : ℕ) (n : Name) (b : Racing P)
@@ -84,10 +164,12 @@ module _ {P : Type 0} where
     pub births : (local b).births ≡ (local a).births + 1
     pub raised : (local b).raised ≡ (local a).raised
     pub small : size_of refs nums ≤ MAX_MEDIUM_WORDS
+    pub place : PlacesObject rules a.seat.now d (size_of refs nums) b.seat.now
+    pub takes : TakesRoom rules a.seat.now (size_of refs nums) b.seat.now
 
   -- No object was allocated: the mutator is to stop with this need.
   pub record Needs (rules : Rules) (a : Racing P) (d refs nums : ℕ) (need : Need) (b : Racing P)
       : Type 0 where
     pub takes : TakesNothing rules a b
     pub call : IsNeedOf d refs nums need
-    pub cause : IsCauseIn (epoch_of_racing rules b) (local b) (size_of refs nums) need.cause
+    pub cause : IsCauseFor rules b.seat.now (size_of refs nums) need.cause

@@ -7,6 +7,7 @@ ghost use Rattle.object_model.specs.Graphs.{numbers_of};
 ghost use Rattle.mutator_calls.specs.Stopping.{stop_of};
 ghost use Rattle.mutator_rule.specs.Seats.{local_of};
 ghost use Rattle.racing_world.specs.RacingSeats.{MayCall, holdings};
+ghost use Rattle.racing_world.specs.NoRoom.{regions_at};
 ghost use Rattle.racing_world.specs.Barriers.{LogsWhereNeeded};
 ghost use Rattle.racing_world.specs.Calls.{EntersCommand, EntersNothing, epoch_of_world, number_of, stop_seen, has_raised};
 
@@ -26,6 +27,7 @@ impl<P: Plan> World<P> {
         ensures nothing { EntersNothing P.rules self.now seat.old seat.new }
         ensures kept { has_raised seat.new ≡ has_raised seat.old }
         ensures holds { holdings (local_of seat.new) ≡ holdings (local_of seat.old) }
+        ensures regions { regions_at seat.new ≡ regions_at seat.old }
         ensures stop { stop_seen seat.new ≡ stop_of result }
         ensures mutator { (m : ℕ) → result ≡ Polled.Raised m
             → Contains (numbers_of (epoch_of_world P.rules self.now).mutators) m }
@@ -43,6 +45,7 @@ impl<P: Plan> World<P> {
         requires { MayCall P.rules self.now.row seat.old }
         ensures nothing { EntersNothing P.rules self.now seat.old seat.new }
         ensures holds { holdings (local_of seat.new) ≡ holdings (local_of seat.old) }
+        ensures regions { regions_at seat.new ≡ regions_at seat.old }
         ensures raised { has_raised seat.new ≡ true }
     {
         calls::raise(&mut Racing {

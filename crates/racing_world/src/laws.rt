@@ -17,6 +17,15 @@ ghost use Rattle.mutator_core.specs.declared.state.Event.TheVariants as event;
 ghost use Rattle.mutator_rule.specs.declared.views.EpochStart.{EpochStart};
 ghost use Rattle.mutator_rule.specs.declared.views.MutatorView.{MutatorView};
 ghost use Rattle.mutator_rule.specs.Logs.{HasOneLog, history_seen};
+ghost use Rattle.mutator_rule.specs.Seats.{local_of};
+ghost use Rattle.mutator_rule.specs.declared.seat.MutatorSeat.{MutatorSeat};
+ghost use Rattle.mutator_calls.specs.declared.need.NeedCause.{NeedCause};
+ghost use Rattle.racing_world.specs.declared.world.World.{World};
+ghost use Rattle.racing_world.specs.RacingSeats.{MayCall, holdings};
+ghost use Rattle.racing_world.specs.Calls.{EntersNothing};
+ghost use Rattle.racing_world.specs.NoRoom.{regions_at, IsCauseFor};
+
+use plan_api::Plan;
 
 /// At the store of a `put` the object is not old, or its unlog bit is clear.
 pub fn stores_follow_the_barrier()
@@ -37,4 +46,13 @@ pub fn seats_see_one_history()
         → get_elem? s.views b ≡ some ws → get_elem? ws l ≡ some w
         → IsPrefix (history_seen rules v) (history_seen rules w)
         ⊎ IsPrefix (history_seen rules w) (history_seen rules v) }
+{}
+
+/// The cause of a mutator's need stands after a call that enters nothing and leaves the mutator its
+/// blocks, its objects, its ticket and its regions: other mutators' steps make no room for it.
+pub fn causes_stand<P: Plan>()
+    ensures { (w : World P) (old new : MutatorSeat) → MayCall P.rules w.row old
+        → EntersNothing P.rules w old new → holdings (local_of new) ≡ holdings (local_of old)
+        → regions_at new ≡ regions_at old → (size : ℕ) (cause : NeedCause)
+        → IsCauseFor P.rules old size cause → IsCauseFor P.rules new size cause }
 {}

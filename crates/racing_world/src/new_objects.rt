@@ -1,4 +1,4 @@
-//! The call that allocates objects in Free blocks.
+//! The call that allocates an object.
 
 ghost use Rattle.std.specs.Prelude.{◌+◌, ◌<◌, ◌≤◌, ◌^◌};
 ghost use Rattle.racing_world.specs.RacingSeats.{MayCall};
@@ -13,20 +13,15 @@ use object_model::Shape;
 use plan_api::Plan;
 
 impl<P: Plan> World<P> {
-    /// Allocates an object with `refs` nil references and `nums` zeros in the mutator's region for
-    /// its size, or else in the first Free block, which it takes with a ticket: no hole of a block
-    /// that was in use is looked for. Register `d` holds the object. Its name is the mutator's
-    /// next. Others see it when its start bit is set, after its words.
+    /// Allocates an object with `refs` nil references and `nums` zeros: in a region of the mutator
+    /// if one has room, else in a hole, of a block of its own or one that nobody owns, else in the
+    /// first Free block, which it takes with a ticket. In overflow allocation a Free block comes
+    /// before a hole. Register `d` holds the object. Its name is the mutator's next. Others see it
+    /// when its start bit is set, after its words.
     ///
-    /// The answer is `Stop` if the object is large, or if the region has no room and no Free block
-    /// may be taken.
-    pub fn new_in_free_blocks(
-        &self,
-        seat: &mut MutatorSeat,
-        d: u32,
-        refs: u32,
-        nums: u32,
-    ) -> Allocated
+    /// The answer is `Stop` if the object is large, or if there is no room for it that the mutator
+    /// may fill and no Free block may be taken.
+    pub fn new_object(&self, seat: &mut MutatorSeat, d: u32, refs: u32, nums: u32) -> Allocated
         requires call { MayCall P.rules self.now.row seat.old }
         requires register { d < REGISTERS }
         requires refs { refs ≤ MAX_REFS }
@@ -39,6 +34,6 @@ impl<P: Plan> World<P> {
             row: &self.row,
             seat,
         };
-        racing.new_in_free_blocks(d, &shape)
+        racing.new_object(d, &shape)
     }
 }

@@ -109,7 +109,7 @@ fn all_but(bit: u32) -> u64
 
 /// Whether a bit of a word is set.
 #[inline(always)]
-fn is_set(word: u64, bit: u32) -> bool
+pub(crate) fn is_set(word: u64, bit: u32) -> bool
     requires { bit < BITS_PER_WORD }
     ensures { result ≡ has_bit word bit }
 {

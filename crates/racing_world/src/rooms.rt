@@ -18,10 +18,12 @@ ghost use Rattle.mutator_core.specs.Machine.{next_name};
 ghost use Rattle.mutator_core.specs.Guards.{HasTicket};
 ghost use Rattle.mutator_core.specs.Seen.{HasSeenUsed};
 ghost use Rattle.mutator_core.specs.declared.state.Extent.{Extent};
-ghost use Rattle.racing_world.specs.RacingSeats.{IsReady, Makes, local, holdings, epoch_of_racing};
+ghost use Rattle.racing_world.specs.OwnHoles.{IsNextCell};
+ghost use Rattle.racing_world.specs.RacingSeats.{IsReady, Makes, OnlyLoads, local, holdings, epoch_of_racing};
 ghost use Rattle.mutator_rule.specs.Seats.{KeepsKnown};
-ghost use Rattle.racing_world.specs.Rooms.{IsOwnRegion, HasRooms, UsesItsBlocks, UsesOthers};
-ghost use Rattle.racing_world.specs.Searches.{HasFound, NotesOwn};
+ghost use Rattle.racing_world.specs.Rooms.{IsOwnRegion, IsCellRegion, HasRooms, UsesItsBlocks, UsesOthers};
+ghost use Rattle.racing_world.specs.NoRoom.{LacksRegionRoom};
+ghost use Rattle.racing_world.specs.Searches.{HasFound, NotesOwn, KeepsBlocks, PlacesObject};
 ghost use Rattle.racing_world.specs.Births.{with_object};
 
 use crate::racing::Racing;
@@ -29,29 +31,37 @@ use block_regions::BlockNote;
 use heap_layout::{BLOCK_WORDS, CLASSES, Kind, Region};
 use ideal_heap::{MAX_NUMS, MAX_REFS, Name, REGISTERS};
 use local_allocators::block_for;
-use object_model::{MAX_MEDIUM_WORDS, Shape, size_words};
+use object_model::{HEADER_WORDS, MAX_MEDIUM_WORDS, Shape, size_words};
 use plan_api::Plan;
 
 impl<P: Plan> Racing<'_, '_, P> {
-    /// What an object of `size` words at the start of a region of the mutator leaves of it.
-    fn rest_of(&self, region: &Region, size: u32) -> Region
+    /// What an object of `size` words at the start of a region of the mutator leaves of the block:
+    /// the rest of the region, or the next free cell.
+    fn rest_after(&mut self, block: u32, region: &Region, size: u32) -> Region
+        requires ready { IsReady P.rules self.old }
+        requires block { block < (epoch_of_racing P.rules self.old).before.blocks }
+        requires least { HEADER_WORDS ≤ size }
+        requires most { size ≤ MAX_MEDIUM_WORDS }
         requires room { region.now.next + size ≤ region.now.end }
         requires end { region.now.end ≤ BLOCK_WORDS }
+        requires cell { P.rules.fill ≡ kinds.Cells
+            → IsCellRegion (class_for P.rules.fill size) region.now }
+        ensures ready { IsReady P.rules self.new }
+        ensures looks { OnlyLoads P.rules self.old self.new }
+        ensures notes { self.new.seat.now.notes ≡ self.old.seat.now.notes }
+        ensures births { (local self.new).births ≡ (local self.old).births }
         ensures plain { P.rules.fill ≢ kinds.Cells
             → result ≡ (record { next = region.now.next + size; end = region.now.end }) }
-        ensures cells { P.rules.fill ≡ kinds.Cells
-            → result ≡ (record { next = BLOCK_WORDS; end = BLOCK_WORDS }) }
+        ensures cells { P.rules.fill ≡ kinds.Cells → IsNextCell (epoch_of_racing P.rules self.old)
+            (local self.new) block (class_for P.rules.fill size) region.now.end result }
     {
-        if P::alloc_kind() == Kind::Cells {
+        if P::alloc_kind() != Kind::Cells {
             return Region {
-                next: BLOCK_WORDS,
-                end: BLOCK_WORDS,
+                next: region.next + size,
+                end: region.end,
             };
         }
-        Region {
-            next: region.next + size,
-            end: region.end,
-        }
+        self.next_cell(block, P::class_for(size), region.end)
     }
 
     /// Allocates an object at the start of a region of the mutator, which is that of the block.
@@ -90,12 +100,14 @@ impl<P: Plan> Racing<'_, '_, P> {
             }) }
         ensures uses { UsesOthers (epoch_of_racing P.rules self.old) (holdings (local self.old))
             block → UsesItsBlocks (epoch_of_racing P.rules self.old) (holdings (local self.new)) }
+        ensures placed { PlacesObject P.rules self.old.seat.now d
+            (size_of shape.now.refs shape.now.nums) self.new.seat.now }
         ensures births { (local self.new).births ≡ (local self.old).births + 1 }
         ensures raised { (local self.new).raised ≡ (local self.old).raised }
     {
         let address = self.row.layout().address(block, region.next);
         let name = self.publish(d, address, shape);
-        let rest = self.rest_of(region, size_words(shape));
+        let rest = self.rest_after(block, region, size_words(shape));
         self.seat.note_block(
             block,
             BlockNote::Owned {
@@ -125,11 +137,16 @@ impl<P: Plan> Racing<'_, '_, P> {
         ensures uses { IfSome result (λ name.
             UsesItsBlocks (epoch_of_racing P.rules self.old) (holdings (local self.old))
             → UsesItsBlocks (epoch_of_racing P.rules self.old) (holdings (local self.new))) }
+        ensures placed { IfSome result (λ name. PlacesObject P.rules self.old.seat.now d
+            (size_of shape.now.refs shape.now.nums) self.new.seat.now) }
+        ensures kept { IfSome result (λ name. KeepsBlocks self.old.seat.now self.new.seat.now) }
         ensures births { IfSome result (λ name.
             (local self.new).births ≡ (local self.old).births + 1) }
         ensures raised { IfSome result (λ name.
             (local self.new).raised ≡ (local self.old).raised) }
         ensures same { IfNone result (self.new ≡ self.old) }
+        ensures full { IfNone result (LacksRegionRoom P.rules self.old.seat.now
+            (size_of shape.now.refs shape.now.nums)) }
     {
         let size = size_words(shape);
         let notes = self.seat.notes();
@@ -163,6 +180,9 @@ impl<P: Plan> Racing<'_, '_, P> {
             (command.New d shape.now.refs shape.now.nums) (reply.New result) ∷ []) self.new }
         ensures uses { UsesOthers (epoch_of_racing P.rules self.old) (holdings (local self.old))
             block → UsesItsBlocks (epoch_of_racing P.rules self.old) (holdings (local self.new)) }
+        ensures placed { PlacesObject P.rules self.old.seat.now d
+            (size_of shape.now.refs shape.now.nums) self.new.seat.now }
+        ensures kept { KeepsBlocks self.old.seat.now self.new.seat.now }
         ensures births { (local self.new).births ≡ (local self.old).births + 1 }
         ensures raised { (local self.new).raised ≡ (local self.old).raised }
     {

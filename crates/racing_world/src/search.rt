@@ -1,16 +1,19 @@
 //! The search for room, and allocation with it.
 
-ghost use Rattle.std.specs.Prelude.{◌≡◌, ◌+◌, ◌<◌, ◌≤◌, ◌^◌, ℕ, Some, true, false, IfOk, IfErr};
+ghost use Rattle.std.specs.Prelude.{◌≡◌, ◌+◌, ◌<◌, ◌≤◌, ◌^◌, ℕ, Some, true, false, IfOk, IfErr, IfSome, IfNone};
 ghost use Rattle.object_model.specs.Objects.{size_of};
 ghost use Rattle.sessions.specs.Fitting.{class_for};
 ghost use Rattle.mutator_calls.specs.declared.need.Allocated.{Allocated};
 ghost use Rattle.mutator_calls.specs.declared.need.Allocated.TheVariants as allocated;
+ghost use Rattle.local_allocators.specs.MutatorRegions.{Overflows};
+ghost use Rattle.mutator_calls.specs.declared.need.NeedCause.TheVariants as cause;
 ghost use Rattle.mutator_calls.specs.Allocating.{MatchAllocated};
 ghost use Rattle.mutator_core.specs.Guards.{HasTicket, allowance};
 ghost use Rattle.mutator_core.specs.Seen.{HasSeenUsed};
 ghost use Rattle.racing_world.specs.RacingSeats.{IsReady, local, holdings, epoch_of_racing};
 ghost use Rattle.racing_world.specs.Rooms.{HasRooms, UsesItsBlocks, UsesOthers};
-ghost use Rattle.racing_world.specs.Searches.{HasFound, Searches, TakesNothing, Allocates, Needs};
+ghost use Rattle.racing_world.specs.NoRoom.{regions_at, LacksRegionRoom, HasNoRoom, IsCauseFor};
+ghost use Rattle.racing_world.specs.Searches.{HasFound, Searches, TakesNothing, TakesFree, TakesOneHole, TakesRoom, Allocates, Needs};
 
 use crate::racing::Racing;
 use heap_layout::{CLASS_UNIT, Kind};
@@ -45,6 +48,7 @@ impl<P: Plan> Racing<'_, '_, P> {
         ensures ready { IsReady P.rules self.new }
         ensures rooms { HasRooms P.rules self.new.seat.now }
         ensures takes { TakesNothing P.rules self.old self.new }
+        ensures regions { regions_at self.new.seat.now ≡ regions_at self.old.seat.now }
         ensures ticket { (local self.new).ticket ≡ Some result }
     {
         let mut local = self.seat.notes().local;
@@ -55,6 +59,18 @@ impl<P: Plan> Racing<'_, '_, P> {
         local.ticket = Some(ticket);
         self.seat.note_local(local);
         ticket
+    }
+
+    /// Whether an object of `size` words overflows the hole region, under a plan with lines.
+    fn overflows(&self, size: u32) -> bool
+        requires { HasRooms P.rules self.now.seat.now }
+        ensures yes { result ≡ true
+            → Overflows P.rules.fill (regions_at self.now.seat.now) size }
+        ensures no { result ≡ false
+            → Overflows P.rules.fill (regions_at self.now.seat.now) size → ⊥ }
+    {
+        let notes = self.seat.notes();
+        overflows(&notes.blocks, &notes.local, P::alloc_kind(), size)
     }
 
     /// Takes a block with the ticket if it is Free. Its words are the region for the size then; in
@@ -74,6 +90,8 @@ impl<P: Plan> Racing<'_, '_, P> {
         ensures uses { result ≡ true
             → UsesItsBlocks (epoch_of_racing P.rules self.old) (holdings (local self.old))
             → UsesOthers (epoch_of_racing P.rules self.old) (holdings (local self.new)) block }
+        ensures takes { result ≡ true → TakesFree P.rules self.old self.new block
+            (class_for P.rules.fill size) }
         ensures kept { result ≡ false
             → holdings (local self.new) ≡ holdings (local self.old) }
         ensures used { result ≡ false → HasSeenUsed (local self.new) block }
@@ -106,6 +124,7 @@ impl<P: Plan> Racing<'_, '_, P> {
         ensures rooms { HasRooms P.rules self.new.seat.now }
         ensures searches { Searches P.rules self.old self.new }
         ensures found { HasFound P.rules self.new (class_for P.rules.fill size) result size }
+        ensures takes { TakesFree P.rules self.old self.new result (class_for P.rules.fill size) }
         ensures uses { UsesItsBlocks (epoch_of_racing P.rules self.old) (holdings (local self.old))
             → UsesOthers (epoch_of_racing P.rules self.old) (holdings (local self.new)) result }
     {
@@ -117,9 +136,9 @@ impl<P: Plan> Racing<'_, '_, P> {
         unreachable!()
     }
 
-    /// Finds room for `size` words, for which no region has room: a Free block is taken with a
-    /// ticket. Returns the block. The error is a ticket that is not below the allowance.
-    fn find_room(&mut self, size: u32) -> Result<u32, u32>
+    /// Takes the first Free block with the mutator's ticket, which is drawn if it has none. Returns
+    /// the block. The error is a ticket that is not below the allowance.
+    fn take_free_block(&mut self, size: u32) -> Result<u32, u32>
         requires ready { IsReady P.rules self.old }
         requires rooms { HasRooms P.rules self.old.seat.now }
         requires least { HEADER_WORDS ≤ size }
@@ -132,7 +151,13 @@ impl<P: Plan> Racing<'_, '_, P> {
         ensures uses { IfOk result (λ k.
             UsesItsBlocks (epoch_of_racing P.rules self.old) (holdings (local self.old))
             → UsesOthers (epoch_of_racing P.rules self.old) (holdings (local self.new)) k) }
-        ensures takes { IfErr result (λ t. TakesNothing P.rules self.old self.new) }
+        ensures takes { IfOk result (λ k. TakesFree P.rules self.old self.new k
+            (class_for P.rules.fill size)) }
+        ensures good { IfOk result (λ k. (t : ℕ) → (local self.old).ticket ≡ Some t
+            → t < allowance (epoch_of_racing P.rules self.old)) }
+        ensures nothing { IfErr result (λ t. TakesNothing P.rules self.old self.new) }
+        ensures regions { IfErr result (λ t.
+            regions_at self.new.seat.now ≡ regions_at self.old.seat.now) }
         ensures ticket { IfErr result (λ t. (local self.new).ticket ≡ Some t) }
         ensures few { IfErr result (λ t. allowance (epoch_of_racing P.rules self.new) ≤ t) }
     {
@@ -141,6 +166,100 @@ impl<P: Plan> Racing<'_, '_, P> {
             return Err(ticket);
         }
         Ok(self.take_some_free(size))
+    }
+
+    /// Finds a hole with room for `size` words: in a block of the mutator's own, else in one that
+    /// nobody owns, which it takes. Returns the block.
+    fn find_hole(&mut self, size: u32) -> Option<u32>
+        requires ready { IsReady P.rules self.old }
+        requires rooms { HasRooms P.rules self.old.seat.now }
+        requires least { HEADER_WORDS ≤ size }
+        requires most { size ≤ MAX_MEDIUM_WORDS }
+        requires full { LacksRegionRoom P.rules self.old.seat.now size }
+        ensures ready { IsReady P.rules self.new }
+        ensures rooms { HasRooms P.rules self.new.seat.now }
+        ensures searches { Searches P.rules self.old self.new }
+        ensures found { IfSome result (λ k.
+            HasFound P.rules self.new (class_for P.rules.fill size) k size) }
+        ensures uses { IfSome result (λ k.
+            UsesItsBlocks (epoch_of_racing P.rules self.old) (holdings (local self.old))
+            → UsesOthers (epoch_of_racing P.rules self.old) (holdings (local self.new)) k) }
+        ensures takes { IfSome result (λ k. TakesOneHole P.rules self.old self.new k size) }
+        ensures nothing { IfNone result (TakesNothing P.rules self.old self.new) }
+        ensures regions { IfNone result (
+            regions_at self.new.seat.now ≡ regions_at self.old.seat.now) }
+        ensures ticket { IfNone result ((local self.new).ticket ≡ (local self.old).ticket) }
+        ensures lacks { IfNone result (HasNoRoom P.rules self.new.seat.now size) }
+    {
+        if let Some(block) = self.take_own_hole(size) {
+            return Some(block);
+        }
+        self.take_some_hole(size)
+    }
+
+    /// Finds room for `size` words that overflow the hole region: a Free block, else a hole.
+    /// Returns the block. The error is a ticket that is not below the allowance.
+    fn find_overflow(&mut self, size: u32) -> Result<u32, u32>
+        requires ready { IsReady P.rules self.old }
+        requires rooms { HasRooms P.rules self.old.seat.now }
+        requires least { HEADER_WORDS ≤ size }
+        requires most { size ≤ MAX_MEDIUM_WORDS }
+        requires full { LacksRegionRoom P.rules self.old.seat.now size }
+        requires over { Overflows P.rules.fill (regions_at self.old.seat.now) size }
+        ensures ready { IsReady P.rules self.new }
+        ensures rooms { HasRooms P.rules self.new.seat.now }
+        ensures searches { Searches P.rules self.old self.new }
+        ensures found { IfOk result (λ k.
+            HasFound P.rules self.new (class_for P.rules.fill size) k size) }
+        ensures uses { IfOk result (λ k.
+            UsesItsBlocks (epoch_of_racing P.rules self.old) (holdings (local self.old))
+            → UsesOthers (epoch_of_racing P.rules self.old) (holdings (local self.new)) k) }
+        ensures takes { IfOk result (λ k.
+            TakesRoom P.rules self.old.seat.now size self.new.seat.now) }
+        ensures nothing { IfErr result (λ t. TakesNothing P.rules self.old self.new) }
+        ensures cause { IfErr result (λ t.
+            IsCauseFor P.rules self.new.seat.now size (cause.Budget t)) }
+    {
+        let ticket = match self.take_free_block(size) {
+            Ok(block) => return Ok(block),
+            Err(ticket) => ticket,
+        };
+        match self.find_hole(size) {
+            Some(block) => Ok(block),
+            None => Err(ticket),
+        }
+    }
+
+    /// Finds room for `size` words, for which no region has room: a hole, else a Free block, which
+    /// is taken with a ticket. In overflow allocation a Free block comes before a hole. Returns the
+    /// block. The error is a ticket that is not below the allowance.
+    fn find_room(&mut self, size: u32) -> Result<u32, u32>
+        requires ready { IsReady P.rules self.old }
+        requires rooms { HasRooms P.rules self.old.seat.now }
+        requires least { HEADER_WORDS ≤ size }
+        requires most { size ≤ MAX_MEDIUM_WORDS }
+        requires full { LacksRegionRoom P.rules self.old.seat.now size }
+        ensures ready { IsReady P.rules self.new }
+        ensures rooms { HasRooms P.rules self.new.seat.now }
+        ensures searches { Searches P.rules self.old self.new }
+        ensures found { IfOk result (λ k.
+            HasFound P.rules self.new (class_for P.rules.fill size) k size) }
+        ensures uses { IfOk result (λ k.
+            UsesItsBlocks (epoch_of_racing P.rules self.old) (holdings (local self.old))
+            → UsesOthers (epoch_of_racing P.rules self.old) (holdings (local self.new)) k) }
+        ensures takes { IfOk result (λ k.
+            TakesRoom P.rules self.old.seat.now size self.new.seat.now) }
+        ensures nothing { IfErr result (λ t. TakesNothing P.rules self.old self.new) }
+        ensures cause { IfErr result (λ t.
+            IsCauseFor P.rules self.new.seat.now size (cause.Budget t)) }
+    {
+        if self.overflows(size) {
+            return self.find_overflow(size);
+        }
+        if let Some(block) = self.find_hole(size) {
+            return Ok(block);
+        }
+        self.take_free_block(size)
     }
 
     /// Allocates an object for which no region has room, after a search for room.
@@ -153,6 +272,8 @@ impl<P: Plan> Racing<'_, '_, P> {
         requires nums { shape.now.nums ≤ MAX_NUMS }
         requires small { size_of shape.now.refs shape.now.nums ≤ MAX_MEDIUM_WORDS }
         requires births { (local self.old).births + 1 < 2 ^ 32 }
+        requires full { LacksRegionRoom P.rules self.old.seat.now
+            (size_of shape.now.refs shape.now.nums) }
         ensures ready { IsReady P.rules self.new }
         ensures rooms { HasRooms P.rules self.new.seat.now }
         ensures uses { UsesItsBlocks (epoch_of_racing P.rules self.old) (holdings (local self.old))
@@ -167,9 +288,9 @@ impl<P: Plan> Racing<'_, '_, P> {
         }
     }
 
-    /// Allocates an object, as `World::new_in_free_blocks` does.
+    /// Allocates an object, as `World::new_object` does.
     #[inline(always)]
-    pub(crate) fn new_in_free_blocks(&mut self, d: u32, shape: &Shape) -> Allocated
+    pub(crate) fn new_object(&mut self, d: u32, shape: &Shape) -> Allocated
         requires ready { IsReady P.rules self.old }
         requires rooms { HasRooms P.rules self.old.seat.now }
         requires register { d < REGISTERS }

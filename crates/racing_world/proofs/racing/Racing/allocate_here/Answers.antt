@@ -7,6 +7,7 @@ use Rattle.mutator_rule.specs.declared.seat_notes.SeatNotes.{SeatNotes}
 use Rattle.racing_world.specs.RacingSeats.{local, holdings, epoch_of_racing}
 use Rattle.racing_world.proofs.Noted.{uses-others}
 use Rattle.racing_world.proofs.RoomsNoted.{as-read, has-noted, hole-order, over-order, here-below, here-note, here-own}
+use Rattle.racing_world.proofs.RoomTaken.{keeps-with}
 use Rattle.racing_world.proofs.racing.Racing.allocate_here.Goals as goal
 
 pub block_for-requires-clause-seat : goal.block_for-requires-clause-seat
@@ -48,3 +49,6 @@ allocate_in-requires-clause-own g c =
 
 pub returns-clause-uses : goal.returns-clause-uses
 returns-clause-uses g c uses = c.allocate_in.ensures.uses (uses-others (epoch_of_racing g.P.Plan.rules c.args.self.now) (holdings (local c.args.self.now)) c.in_ok-block.block uses)
+
+pub returns-clause-kept : goal.returns-clause-kept
+returns-clause-kept g c = keeps-with c.args.self.now.seat.now c.allocate_in.new.self.seat.now _ c.allocate_in.ensures.holds

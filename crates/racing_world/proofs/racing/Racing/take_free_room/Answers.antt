@@ -20,7 +20,7 @@ use Rattle.racing_world.proofs.Entered.{rooms-same}
 use Rattle.racing_world.proofs.Allocated.{more-seen, seen-word}
 use Rattle.racing_world.proofs.RoomsKept.{rooms-kept}
 use Rattle.racing_world.proofs.RoomsNoted.{as-read, has-noted, hole-order}
-use Rattle.racing_world.proofs.FreeTaken.{rooms-b, found-b, uses-b, searches-b}
+use Rattle.racing_world.proofs.FreeTaken.{rooms-b, found-b, uses-b, searches-b, takes-b}
 use Rattle.racing_world.proofs.racing.Racing.take_free_room.Goals as goal
 
 pub returns-then-look_block-clause-rooms : goal.returns-then-look_block-clause-rooms
@@ -109,6 +109,17 @@ returns-clause-uses g c done uses =
     uses-b g.P.Plan.rules c.args.self.now c.look_block.new.self c.take_free.new.self c.note_own.new.self c.args.block c.args.size c.look_block.result c.take_free.new.self.seat.now.number c.overflows-over.result c.requires.rooms c.requires.block c.requires.most
     c.look_block.ensures.looks c.look_block.ensures.loaded c.look_block.ensures.notes c.take_free.ensures.makes (c.take_free.ensures.taken is) (c.take_free.ensures.free is) (λ x made. c.take_free.ensures.fresh x is made) (λ o among. c.take_free.ensures.nobody o is among)
     c.take_free.ensures.notes c.take_free.ensures.ready c.note_own.ensures.known c.note_own.ensures.row c.note_own.ensures.seat (λ over. sym c.alloc_kind.ensures ∙ (c.overflows-over.ensures.yes over).over.lines) noted uses
+
+pub returns-clause-takes : goal.returns-clause-takes
+returns-clause-takes g c done =
+    let is : c.take_free.result ≡ true = search rules in
+    let num : ℕ = c.take_free.new.self.seat.now.number in
+    let region : c.first_region-region.result ≡ first_region g.P.Plan.rules.fill (class_for g.P.Plan.rules.fill c.args.size) = c.first_region-region.ensures ∙ (λ k. first_region (c.alloc_kind-2.ensures k) (class_for (c.alloc_kind-2.ensures k) c.args.size)) in
+    let noted = subst (λ (n : ℕ). NotesOwn c.take_free.new.self.seat.now.notes c.note_own.new.self.seat.now.notes c.overflows-over.result c.args.block n (Owned num (first_region g.P.Plan.rules.fill (class_for g.P.Plan.rules.fill c.args.size))) None) c.class_for-class.ensures
+    (subst (λ (r : Region). NotesOwn c.take_free.new.self.seat.now.notes c.note_own.new.self.seat.now.notes c.overflows-over.result c.args.block c.class_for-class.result (Owned num r) None) region c.note_own.ensures.notes) in
+    takes-b g.P.Plan.rules c.args.self.now c.look_block.new.self c.take_free.new.self c.note_own.new.self c.args.block c.args.size c.look_block.result c.take_free.new.self.seat.now.number c.overflows-over.result c.requires.rooms c.requires.block c.requires.most
+    c.look_block.ensures.looks c.look_block.ensures.loaded c.look_block.ensures.notes c.take_free.ensures.makes (c.take_free.ensures.taken is) (c.take_free.ensures.free is) (λ x made. c.take_free.ensures.fresh x is made) (λ o among. c.take_free.ensures.nobody o is among)
+    c.take_free.ensures.notes c.take_free.ensures.ready c.note_own.ensures.known c.note_own.ensures.row c.note_own.ensures.seat (λ over. sym c.alloc_kind.ensures ∙ (c.overflows-over.ensures.yes over).over.lines) noted
 
 pub returns-clause-still : goal.returns-clause-still
 returns-clause-still g c k saw = subst (λ (v : MutatorView). HasSeenUsed v.local k) (sym c.note_own.ensures.known.known_stays)

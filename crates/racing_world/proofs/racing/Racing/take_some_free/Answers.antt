@@ -1,7 +1,9 @@
-use Rattle.std.proofs.Common.{◌≡◌, ◌<◌, ◌∙◌, sym, ap, ℕ, false, arith, below_more, rules}
+use Rattle.std.proofs.Common.{◌≡◌, ◌<◌, ◌∙◌, sym, ap, ℕ, true, false, arith, below_more, rules}
 use Rattle.mutator_rule.specs.declared.views.EpochStart.{EpochStart}
 use Rattle.racing_world.specs.RacingSeats.{epoch_of_racing}
 use Rattle.racing_world.proofs.Pinned.{blocks-same}
+use Rattle.sessions.specs.Fitting.{class_for}
+use Rattle.racing_world.proofs.RoomTaken.{nothing-of, free-after}
 use Rattle.racing_world.proofs.Searched.{searches-both, ticket-later, some-left}
 use Rattle.racing_world.proofs.racing.Racing.take_some_free.Goals as goal
 
@@ -10,6 +12,11 @@ take_free_room-requires-clause-ticket g c = ticket-later g.P.Plan.rules c.args.s
 
 pub returns-then-take_free_room-clause-searches : goal.returns-then-take_free_room-clause-searches
 returns-then-take_free_room-clause-searches g c = searches-both g.P.Plan.rules c.args.self.now c.loop-block.self c.take_free_room.new.self c.loop-block.invariant.2 c.take_free_room.ensures.searches
+
+pub returns-then-take_free_room-clause-takes : goal.returns-then-take_free_room-clause-takes
+returns-then-take_free_room-clause-takes g c =
+    let is : c.take_free_room.result ≡ true = search rules in
+    free-after g.P.Plan.rules c.args.self.now c.loop-block.self c.take_free_room.new.self c.loop-block.block (class_for g.P.Plan.rules.fill c.args.size) (nothing-of g.P.Plan.rules c.args.self.now c.loop-block.self c.loop-block.invariant.2 c.loop-block.invariant.3) (c.take_free_room.ensures.takes is)
 
 pub loop-block-preserved : goal.loop-block-preserved
 loop-block-preserved g c =

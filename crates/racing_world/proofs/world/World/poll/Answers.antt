@@ -4,6 +4,9 @@ use Rattle.mutator_rule.specs.declared.seat.MutatorSeat.{MutatorSeat}
 use Rattle.racing_world.specs.Calls.{EntersNothing, has_raised, stop_seen}
 use Rattle.mutator_rule.specs.Seats.{local_of}
 use Rattle.racing_world.specs.RacingSeats.{holdings}
+use Rattle.local_allocators.specs.NotedSeats.{regions_in}
+use Rattle.mutator_rule.specs.declared.seat_notes.SeatNotes.{SeatNotes}
+use Rattle.racing_world.specs.NoRoom.{regions_at}
 use Rattle.racing_world.proofs.CallsSeen.{enters-nothing, raised-known, raised-own}
 use Rattle.racing_world.proofs.world.World.poll.Goals as goal
 
@@ -38,3 +41,9 @@ returns-clause-holds g c =
     let name = c.poll.ensures.looks.makes.seat in
     let same : c.poll.new.seat.seat.now ≡ c.seat-1.given.0 = search rules in
     subst (λ (seat : MutatorSeat). holdings (local_of seat) ≡ holdings (local_of c.args.seat.now)) same c.poll.ensures.looks.kept
+
+pub returns-clause-regions : goal.returns-clause-regions
+returns-clause-regions g c =
+    let name = c.poll.ensures.looks.makes.seat in
+    let same : c.poll.new.seat.seat.now ≡ c.seat-1.given.0 = search rules in
+    subst (λ (seat : MutatorSeat). regions_at seat ≡ regions_at c.args.seat.now) same (ap (λ (n : SeatNotes). regions_in n.blocks.items n.local) c.poll.ensures.looks.rooms)
