@@ -19,7 +19,7 @@ use trace_text::print_replies;
 use work_packets::Gate;
 
 // Runs the traces to their end, under a plan.
-fn run_to_end<P: Plan, G: Gate, R: Threads + Sync>(
+fn run_to_end<P: Plan + Sync, G: Gate, R: Threads + Sync>(
     scheduler: &Scheduler<'_, R, StealPool, G>,
     alloc: Global,
     layout: Layout,
@@ -65,7 +65,7 @@ pub(crate) fn text_of_replies<P: Plan>(
 }
 
 // The text of a whole session of an order under a plan.
-fn text_under<P: Plan, G: Gate, R: Threads + Sync>(
+fn text_under<P: Plan + Sync, G: Gate, R: Threads + Sync>(
     scheduler: &Scheduler<'_, R, StealPool, G>,
     alloc: Global,
     layout: Layout,

@@ -1,5 +1,5 @@
 -- The parts of an epoch after some were run.
-use Rattle.std.proofs.Common.{◌≡◌, refl, sym, ◌∙◌, ap, subst, ℕ, ◌+◌, ◌<◌, ◌≤◌, inl, inr, arith, List, length, length-set}
+use Rattle.std.proofs.Common.{◌≡◌, refl, sym, ◌∙◌, ap, subst, ℕ, zero, suc, ◌+◌, ◌<◌, ◌≤◌, inl, inr, arith, List, [], ◌∷◌, ◌++◌, take, drop, length, length-append, length-set}
 use Rattle.std.specs.Prelude.{Some, None, All, slice_get, slice_index_or, slice_set}
 use Rattle.std.proofs.lemmas.Option.{get_or_from_slice_get}
 use Rattle.std.proofs.lemmas.Bool.{cases_eq}
@@ -12,7 +12,7 @@ use Rattle.mm_runtime.specs.declared.epochs.Epoch.{Epoch}
 use Rattle.mm_runtime.specs.declared.manager.Manager.{Manager}
 use Rattle.mm_runtime.specs.SeatParts.{IsPartOf}
 use Rattle.mm_runtime.specs.OpenEpochs.{IsEpochOf, RunsAll, RunsToEnd}
-use Rattle.mm_runtime.proofs.PartLists.{all-from}
+use Rattle.mm_runtime.proofs.PartLists.{all-from, written-back}
 
 module _ {P : Type 0} (rules : Rules) (old : Manager P) (e : Epoch P) where
   pub all-belong : (parts : List Part) → IsEpochOf rules old e parts → All (IsPartOf rules e.world) parts
@@ -67,6 +67,33 @@ module _ {P : Type 0} (rules : Rules) (w : World P) where
     count = ran.count;
     each = λ j p q was is. ran.below j p q (let below : j < length old = get-below old j p was in omega arith) was is;
   }
+
+  -- what holds of two neighbouring lists of parts
+  tail-ran : (x : Part) (xs : List Part) (y : Part) (ys : List Part) → RunsAll rules w (x ∷ xs) (y ∷ ys) → RunsAll rules w xs ys
+  tail-ran x xs y ys ran = record {
+    count = (let e : suc (length ys) ≡ suc (length xs) = ran.count in omega arith);
+    each = λ k p q was is. ran.each (suc k) p q was is;
+  }
+
+  both-at : (xs more ys rest : List Part) → RunsAll rules w xs ys → RunsAll rules w more rest → (k : ℕ) (p q : Part) → slice_get (xs ++ more) k ≡ Some p → slice_get (ys ++ rest) k ≡ Some q
+      → RunsToEnd rules w p q
+  both-at [] more [] rest a b k p q was is = b.each k p q was is
+  both-at [] more (y ∷ ys) rest a b k p q was is = absurd (let e : suc (length ys) ≡ 0 = a.count in omega arith)
+  both-at (x ∷ xs) more [] rest a b k p q was is = absurd (let e : 0 ≡ suc (length xs) = a.count in omega arith)
+  both-at (x ∷ xs) more (y ∷ ys) rest a b zero p q was is = a.each zero p q was is
+  both-at (x ∷ xs) more (y ∷ ys) rest a b (suc k) p q was is = both-at xs more ys rest (tail-ran x xs y ys a) b k p q was is
+
+  pub ran-both : (xs more ys rest : List Part) → RunsAll rules w xs ys → RunsAll rules w more rest → RunsAll rules w (xs ++ more) (ys ++ rest)
+  ran-both xs more ys rest a b = record {
+    count = length-append ys rest ∙ (let first = a.count in let second = b.count in let sum : length ys + length rest ≡ length xs + length more = omega arith in sum) ∙ sym (length-append xs more);
+    each = both-at xs more ys rest a b;
+  }
+
+  -- parts that were lent as a slice, and written back
+  pub ran-lent : (old new lent : List Part) (n : ℕ) → lent ≡ old → n ≡ length old → RunsAll rules w lent new → RunsAll rules w old (take n (new ++ drop (length new) old))
+  ran-lent old new lent n same count ran =
+      let all : RunsAll rules w old new = subst (λ (ps : List Part). RunsAll rules w ps new) same ran in
+      subst (λ (ps : List Part). RunsAll rules w old ps) (sym (written-back new old n all.count count)) all
 
   pub ran-each : (old new : List Part) → length new ≡ length old → ((k : ℕ) (d : Part) → k < length old → RunsToEnd rules w (slice_index_or old k d) (slice_index_or new k d)) → RunsAll rules w old new
   ran-each old new count each = record {

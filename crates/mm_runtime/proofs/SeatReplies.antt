@@ -9,13 +9,13 @@ use Rattle.mutator_calls.specs.Effects.{Answered}
 use Rattle.mutator_rule.specs.declared.seat.MutatorSeat.{MutatorSeat}
 use Rattle.racing_world.specs.declared.world.World.{World}
 use Rattle.racing_world.specs.RacingSeats.{MayCall}
-use Rattle.racing_world.specs.Calls.{history_at, calls_of, number_of, has_raised, EntersOnce, EntersNothing}
+use Rattle.racing_world.specs.Calls.{history_at, calls_of, number_of, has_raised, stop_seen, EntersOnce, EntersNothing}
 use Rattle.sessions.specs.Plans.{Rules}
 use Rattle.stored_replies.specs.Replies.{Replies}
 use Rattle.mm_runtime.specs.declared.progress.Progress.{Progress}
 use Rattle.mm_runtime.specs.declared.progress.PartEnd.{PartEnd}
 use Rattle.mm_runtime.specs.Managers.{next_in_trace}
-use Rattle.mm_runtime.specs.SeatParts.{AnswersSeat, SeatGetsReply, SeatEndsPart, RunsSeat}
+use Rattle.mm_runtime.specs.SeatParts.{AnswersSeat, RepliesUnstopped, SeatGetsReply, SeatGoesOn, SeatEndsPart, RunsSeat}
 use Rattle.mm_runtime.proofs.ListFacts.{entries-of}
 use Rattle.mm_runtime.proofs.Replying.{take-more}
 
@@ -90,29 +90,51 @@ module _ {P : Type 0} (rules : Rules) (w : World P) where
       raised = λ calm. ends.raised (kept ∙ calm);
     }
 
-    pub step-after : (result : Option PartEnd) → MatchOption result (SeatGetsReply rules w mid command before new after) (SeatEndsPart rules w mid command before new after)
-        → MatchOption result (SeatGetsReply rules w old command before new after) (SeatEndsPart rules w old command before new after)
-    step-after None gets = gets-after gets
-    step-after (Some end) ends = ends-after end ends
+    pub goes-on : stop_seen mid ≡ 0 → SeatGetsReply rules w mid command before new after → SeatGoesOn rules w old command before new after
+    goes-on unstopped gets = record { polled = mid; polls = first; unstopped = unstopped; raised = kept; gets = gets }
+
+    pub step-after : (result : Option PartEnd) → stop_seen mid ≡ 0 → MatchOption result (SeatGetsReply rules w mid command before new after) (SeatEndsPart rules w mid command before new after)
+        → MatchOption result (SeatGoesOn rules w old command before new after) (SeatEndsPart rules w old command before new after)
+    step-after None unstopped gets = goes-on unstopped gets
+    step-after (Some end) unstopped ends = ends-after end ends
+
+  pub gets-of : (old new : MutatorSeat) (command : Command) (before after : Replies) → SeatGoesOn rules w old command before new after → SeatGetsReply rules w old command before new after
+  gets-of old new command before after step = gets-after old step.polled new command before after step.polls step.raised step.gets
+
+  -- replies that came after polls which saw no stop, and one more, or none
+  unstopped-append : (old mid new : MutatorSeat) (es fs : List Answered) → RepliesUnstopped rules w old es mid → RepliesUnstopped rules w mid fs new → RepliesUnstopped rules w old (es ++ fs) new
+  unstopped-append old mid new [] [] x y = seat-append old mid new [] [] x y
+  unstopped-append old mid new [] (f ∷ fs) x y = (y.0, y.1, seat-append old mid y.0 [] [] x y.2, y.3, y.4, y.5)
+  unstopped-append old mid new (e ∷ es) fs x y = (x.0, x.1, x.2, x.3, x.4, unstopped-append x.1 mid new es fs x.5 y)
+
+  one-unstopped : (old new : MutatorSeat) (command : Command) (before after : Replies) → (step : SeatGoesOn rules w old command before new after)
+      → RepliesUnstopped rules w old (record { command = command; reply = step.gets.reply } ∷ []) new
+  one-unstopped old new command before after step = (step.polled, new, step.polls, step.unstopped, step.gets.answers, seat-none new step.gets.answers.call)
 
   -- the replies of a part go to those of its trace
   pub runs-none : (seat : MutatorSeat) (p : Progress) → MayCall rules w.row seat → RunsSeat rules w seat p seat p
   runs-none seat p may = record {
     answered = [];
     answers = seat-none seat may;
+    unstopped = seat-none seat may;
     trace = refl;
     replies = sym (append-nil p.replies.items);
     commands = sym (append-nil (take (length p.replies.items) p.trace));
   }
 
-  pub runs-more : (old mid new : MutatorSeat) (before between after : Progress) (command : Command) (reply : Reply) → RunsSeat rules w old before mid between
-      → AnswersSeat rules w mid (record { command = command; reply = reply } ∷ []) new → next_in_trace between ≡ Some command
-      → after.trace ≡ between.trace → after.replies.items ≡ between.replies.items ++ reply ∷ [] → RunsSeat rules w old before new after
-  runs-more old mid new before between after command reply runs answers is trace replies =
+  pub runs-more : (old mid new : MutatorSeat) (before between after : Progress) (command : Command) → RunsSeat rules w old before mid between
+      → SeatGoesOn rules w mid command between.replies new after.replies → next_in_trace between ≡ Some command
+      → after.trace ≡ between.trace → RunsSeat rules w old before new after
+  unfolding gets-of gets-after
+  runs-more old mid new before between after command runs step is trace =
+      let gets = gets-of mid new command between.replies after.replies step in
+      let reply : Reply = gets.reply in
+      let replies : after.replies.items ≡ between.replies.items ++ reply ∷ [] = gets.items in
       let one : List Answered = record { command = command; reply = reply } ∷ [] in
       let count : length after.replies.items ≡ length between.replies.items + 1 = ap length replies ∙ length-append between.replies.items (reply ∷ []) in record {
         answered = runs.answered ++ one;
-        answers = seat-append old mid new runs.answered one runs.answers answers;
+        answers = seat-append old mid new runs.answered one runs.answers gets.answers;
+        unstopped = unstopped-append old mid new runs.answered one runs.unstopped (one-unstopped mid new command between.replies after.replies step);
         trace = trace ∙ runs.trace;
         replies = replies ∙ ap (λ l. l ++ reply ∷ []) runs.replies
             ∙ append_assoc before.replies.items (map (λ e. e.reply) runs.answered) (reply ∷ [])
@@ -130,6 +152,7 @@ module _ {P : Type 0} (rules : Rules) (w : World P) where
       let same : after.replies.items ≡ between.replies.items = ap (λ (v : Replies). v.items) ends.replies in record {
         answered = runs.answered;
         answers = subst (λ (es : List Answered). AnswersSeat rules w old es new) (append-nil runs.answered) (seat-append old mid new runs.answered [] runs.answers ends.answers);
+        unstopped = subst (λ (es : List Answered). RepliesUnstopped rules w old es new) (append-nil runs.answered) (unstopped-append old mid new runs.answered [] runs.unstopped ends.answers);
         trace = trace ∙ runs.trace;
         replies = same ∙ runs.replies;
         commands = ap (λ (l : List Reply). take (length l) after.trace) same ∙ ap (take (length between.replies.items)) trace ∙ runs.commands;

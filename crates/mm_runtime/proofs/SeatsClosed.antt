@@ -31,7 +31,7 @@ use Rattle.heap_users.specs.Beginnings.{epoch_of}
 use Rattle.heap_users.specs.Users.{mutator_state}
 use Rattle.heap_users.proofs.StopWords.{stopped-before}
 use Rattle.heap_users.proofs.Cleared as cleared
-use Rattle.racing_world.specs.Searches.{IsCauseIn}
+use Rattle.racing_world.specs.NoRoom.{IsCauseFor}
 use Rattle.racing_world.specs.RacingSeats.{MayCall}
 use Rattle.racing_world.specs.Calls.{epoch_of_world, history_at, calls_of, number_of, has_raised, stop_seen}
 use Rattle.racing_world.specs.Closing.{EndsEpoch, IsSeatAt, mutator_at}
@@ -145,7 +145,7 @@ module _ {P : Type 0} (rules : Rules) (old new : Manager P) (e : Epoch P) (parts
         number_is = stop ∙ sym who.3 ∙ ap number_of (sym y.2) ∙ own.0.number ∙ own.1;
       }
 
-  spent-by : (k : ℕ) (x : Part) (size : ℕ) (cause : NeedCause) → slice_get parts k ≡ Some x → IsCauseIn (epoch_of_seat rules x.seat) (local_of x.seat) size cause → size ≤ MAX_MEDIUM_WORDS
+  spent-by : (k : ℕ) (x : Part) (size : ℕ) (cause : NeedCause) → slice_get parts k ≡ Some x → IsCauseFor rules x.seat size cause → size ≤ MAX_MEDIUM_WORDS
       → IsSpentAt p parts k
   spent-by k x size Large is large small = absurd (let more : MAX_MEDIUM_WORDS < size = large in omega arith)
   spent-by k x size (Budget t) is cause small = record {

@@ -10,7 +10,7 @@ pub use Rattle.managed_heap.specs.declared.stopped_heap.StoppedHeap.{StoppedHeap
 pub use Rattle.mm_runtime.specs.Managers.{Closes, ClosesSome, HasEnded, IsAtStop, IsFresh, IsInOrder, IsMutatorOf, IsProgress, IsRunnableTrace, StandsAt, globals_of, left, next_in_trace, replied, traces_of}
 pub use Rattle.mm_runtime.specs.Parts.{AnswersMutator, AreGcs, AreNeeds, EndsFor, EndsPart, GetsReply, RunsParts, RunsTrace, causes, is_quiet, raises_stop}
 pub use Rattle.mm_runtime.specs.OpenEpochs.{EndsParts, IsEpochOf, MakesEpoch, RepliesSince, RunsAll, RunsToEnd, end_of, seat_of, trace_in}
-pub use Rattle.mm_runtime.specs.SeatParts.{HasEndedFor, HasFewBirths, IsPartOf, RunsPartOf, RunsSeat, SeatEndsFor, SeatEndsPart, SeatGetsReply}
+pub use Rattle.mm_runtime.specs.SeatParts.{HasEndedFor, HasFewBirths, IsPartOf, RunsPartOf, RunsSeat, SeatEndsFor, SeatEndsPart, SeatGetsReply, SeatGoesOn}
 pub use Rattle.mm_runtime.specs.Replying.{GetsOk, HasGc, RepliesBelow, is_gc_at, is_meet_at}
 pub use Rattle.mm_runtime.specs.Stops.{AddsReply, MatchPlaced, NeedsNext, RepliesAt, RepliesTo, ServesEnd}
 pub use Rattle.mm_runtime.specs.declared.progress.Progress.{Progress, Progress as State}

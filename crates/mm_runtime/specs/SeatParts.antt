@@ -11,10 +11,9 @@ use Rattle.mutator_core.specs.Machine.{first_machine}
 use Rattle.mutator_calls.specs.declared.need.Need.{Need}
 use Rattle.mutator_calls.specs.Effects.{Answered}
 use Rattle.mutator_rule.specs.declared.seat.MutatorSeat.{MutatorSeat}
-use Rattle.mutator_rule.specs.Seats.{epoch_of_seat, local_of}
 use Rattle.racing_world.specs.declared.world.World.{World}
 use Rattle.racing_world.specs.RacingSeats.{MayCall}
-use Rattle.racing_world.specs.Searches.{IsCauseIn}
+use Rattle.racing_world.specs.NoRoom.{IsCauseFor}
 use Rattle.racing_world.specs.Calls.{epoch_of_world, history_at, calls_of, number_of, stop_seen, has_raised, IsFresh}
 use Rattle.stored_replies.specs.Replies.{Replies}
 use Rattle.mm_runtime.specs.declared.progress.Progress.{Progress}
@@ -34,6 +33,14 @@ pub record AnswersSeat {P : Type 0} (rules : Rules) (w : World P) (old : Mutator
   pub calls : calls_of rules new
       ≡ calls_of rules old ++ map (λ e. entry (number_of old) e.command e.reply) es
 
+-- Each of these replies came after a poll that saw no stop raised.
+abbrev pub RepliesUnstopped : {P : Type 0} → Rules → World P → MutatorSeat → List Answered
+    → MutatorSeat → Type 0
+RepliesUnstopped rules w old [] new = AnswersSeat rules w old [] new
+RepliesUnstopped rules w old (e ∷ es) new = (polled : MutatorSeat) × (next : MutatorSeat)
+    × AnswersSeat rules w old [] polled × (stop_seen polled ≡ 0)
+    × AnswersSeat rules w polled (e ∷ []) next × RepliesUnstopped rules w next es new
+
 -- the number of objects that mutator m had allocated as the epoch began
 abbrev pub births_before : {P : Type 0} → Rules → World P → ℕ → ℕ
 births_before rules w m = ((first_machine (epoch_of_world rules w)).locals m).births
@@ -46,8 +53,7 @@ HasFewBirths rules w seat replies =
 
 -- why the seat's mutator could not allocate the object of this need
 abbrev pub IsCauseAt : Rules → MutatorSeat → Need → Type 0
-IsCauseAt rules seat need = IsCauseIn (epoch_of_seat rules seat) (local_of seat)
-    (size_of need.refs need.nums) need.cause
+IsCauseAt rules seat need = IsCauseFor rules seat (size_of need.refs need.nums) need.cause
 
 -- Why a part ends whose mutator, at this seat, has this next command. A stop that was raised is the
 -- one that it polled.
@@ -68,6 +74,15 @@ pub record SeatGetsReply {P : Type 0} (rules : Rules) (w : World P) (old : Mutat
   pub capacity : after.capacity ≡ before.capacity
   pub raised : has_raised new ≡ has_raised old
 
+-- The mutator polled, saw no stop raised, and got one reply to this command.
+pub record SeatGoesOn {P : Type 0} (rules : Rules) (w : World P) (old : MutatorSeat)
+    (command : Command) (before : Replies) (new : MutatorSeat) (after : Replies) : Type 0 where
+  pub polled : MutatorSeat
+  pub polls : AnswersSeat rules w old [] polled
+  pub unstopped : stop_seen polled ≡ 0
+  pub raised : has_raised polled ≡ has_raised old
+  pub gets : SeatGetsReply rules w polled command before new after
+
 -- The part of the seat's mutator ends at this command, and it gets no reply. It called `raise`
 -- exactly if its end raises a stop.
 pub record SeatEndsPart {P : Type 0} (rules : Rules) (w : World P) (old : MutatorSeat)
@@ -83,6 +98,7 @@ pub record RunsSeat {P : Type 0} (rules : Rules) (w : World P) (old : MutatorSea
     (before : Progress) (new : MutatorSeat) (after : Progress) : Type 0 where
   pub answered : List Answered
   pub answers : AnswersSeat rules w old answered new
+  pub unstopped : RepliesUnstopped rules w old answered new
   pub trace : after.trace ≡ before.trace
   pub replies : after.replies.items ≡ before.replies.items ++ map (λ e. e.reply) answered
   pub commands : take (length after.replies.items) after.trace

@@ -4,12 +4,12 @@
 //! a thread of its own, by a `&` to the epoch; `close_epoch` runs those that were not.
 
 ghost use Rattle.std.specs.Prelude.{◌≡◌, ◌↔◌, ◌<◌, ◌≤◌, All, None, length, map, IfOk, IfSome};
-ghost use Rattle.std.specs.Thread.{IsSync};
 ghost use Rattle.mm_runtime.specs.Prelude.{Setting, Moment, IsWhole, Closes, State, left, replied, number_of, has_raised, next_in_trace, raises_stop, SeatEndsFor, seat_of, trace_in, end_of, ClosesSome, HasEnded, IsManaged, IsInOrder, MakesEpoch, IsPartOf, RunsPartOf, RunsToEnd, RepliesSince, IsEpochOf, EndsParts, AreGcs, AreNeeds, RunsAll};
 
 use crate::manager::{Manager, Turn};
 use crate::progress::{PartEnd, Progress};
 use crate::seat_part::{Part, run_part_at};
+use crate::side_by_side::{run_in_turn, run_side_by_side};
 use block_regions::BlockNotes;
 use managed_heap::{Parts, Scheduler, StoppedHeap};
 use mutator_rule::MutatorSeat;
@@ -17,7 +17,7 @@ use plan_api::Plan;
 use pools::Pool;
 use racing_world::World;
 use std::alloc::{AllocError, Global};
-use std::thread::{Threads, for_each_mut};
+use std::thread::Threads;
 use work_packets::Gate;
 
 /// An epoch: the world that its mutators share, and what its stop needs besides.
@@ -79,42 +79,21 @@ fn new_parts(
     Ok(parts)
 }
 
-/// Runs each part to its end, one after another.
-fn run_in_turn<P: Plan, G: Gate>(epoch: &Epoch<P>, parts: &mut Vec<Part>, gate: &G)
-    requires parts { All (IsPartOf P.rules epoch.now.world) parts.old.items }
-    ensures { RunsAll P.rules epoch.now.world parts.old.items parts.new.items }
-{
-    for k in 0..parts.len() {
-        run_part(epoch, &mut parts[k], gate);
-    }
-}
-
-/// Runs each part to its end, in a thread of its own where one can be started. Takes no memory.
+/// Runs each part of an epoch to its end. Those with commands left run at the same time, each in a
+/// thread where one can be started. Takes no memory.
 pub fn run_parts<P: Plan + Sync, G: Gate, R: Threads + Sync>(
     rt: &R,
     epoch: &Epoch<P>,
-    parts: &mut [Part],
+    parts: &mut Vec<Part>,
     gate: &G,
 )
-    requires some { 0 < length parts.old }
-    requires parts { All (IsPartOf P.rules epoch.now.world) parts.old }
-    ensures runs { RunsAll P.rules epoch.now.world parts.old parts.new }
-    ensures epoch { (old : Manager P) → IsEpochOf P.rules old epoch.now parts.old
-        → IsEpochOf P.rules old epoch.now parts.new }
+    requires ready { (old : Manager P) × ClosesSome P.rules old
+        × IsEpochOf P.rules old epoch.now parts.old.items }
+    ensures runs { RunsAll P.rules epoch.now.world parts.old.items parts.new.items }
+    ensures epoch { (old : Manager P) → IsEpochOf P.rules old epoch.now parts.old.items
+        → IsEpochOf P.rules old epoch.now parts.new.items }
 {
-    let threads = parts.len();
-    let world = &epoch.world;
-    for_each_mut(
-        rt,
-        parts,
-        threads,
-        &|_i: usize, part: &mut Part|
-            requires { IsSync P.row × IsSync G.row × IsPartOf P.rules world.now part.old }
-            ensures { RunsToEnd P.rules world.entry.now part.old part.new }
-        {
-            run_part_at(world, part, gate);
-        },
-    );
+    run_side_by_side(rt, &epoch.world, gate, parts.as_mut_slice());
 }
 
 /// The seats, the traces and the ends of the parts.
@@ -258,7 +237,7 @@ impl<P: Plan> Epoch<P> {
             → left r.0.progress.items < left old.progress.items) }
     {
         let mut parts = parts;
-        run_in_turn(&self, &mut parts, gate);
+        run_in_turn(&self.world, gate, parts.as_mut_slice());
         let (manager, ends) = self.close(parts)?;
         let scheduler = Scheduler { rt, pool, gate };
         let (manager, turn) = manager.make_stop(&scheduler, &ends)?;

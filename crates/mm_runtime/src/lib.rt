@@ -17,6 +17,7 @@ mod reports;
 mod seat_calls;
 mod seat_part;
 mod serve;
+mod side_by_side;
 
 pub use epochs::{Epoch, run_part, run_parts};
 pub use laws::shared_worlds_end_epochs;

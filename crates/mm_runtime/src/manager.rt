@@ -7,6 +7,7 @@
 ghost use Rattle.std.specs.Prelude.{◌≡◌, ◌↔◌, ◌<◌, ◌≤◌, ℕ, All, Some, length, slice_get, IfOk, IsTrue};
 ghost use Rattle.mm_runtime.specs.Prelude.{MIN_BLOCKS, MAX_BLOCKS, Setting, Moment, IsEpoch, IsWhole, first_moment, State, left, traces_of, replied, Closes, IsFresh, ClosesSome, IsRunnableTrace, HasEnded, IsManaged, IsInOrder, IsAtStop, AreGcs, AreNeeds, EndsParts, MakesEpoch, lists_of};
 
+use crate::epochs::run_parts;
 use crate::progress::{PartEnd, Progress};
 use collector::MAX_WORKERS;
 use heap_layout::Layout;
@@ -137,9 +138,26 @@ impl<P: Plan> Manager<P> {
         let turn = manager.turn();
         Ok((manager, turn))
     }
+}
 
+/// Whether two traces or more have commands left.
+fn some_two_left(progress: &[Progress]) -> bool {
+    let mut one = false;
+    for trace in progress {
+        if trace.replies.len() < trace.trace.len() {
+            if one {
+                return true;
+            }
+            one = true;
+        }
+    }
+    false
+}
+
+impl<P: Plan + Sync> Manager<P> {
     /// Runs one epoch and its stop: each mutator runs until it stops, and then collections are made
-    /// and needs are served. The packets of collections run in `pool`.
+    /// and needs are served. Mutators run in threads, if two or more have commands left. The packets
+    /// of collections run in `pool`.
     ///
     /// Fails if memory runs out. The manager is lost then.
     pub fn advance<Q: Pool, G: Gate, R: Threads + Sync>(
@@ -162,6 +180,12 @@ impl<P: Plan> Manager<P> {
         ensures whole { IfOk result (λ r. r.1 ≡ Turn.Ended → (t : Setting) (now : Moment)
             → Closes P.rules r.0 t now → IsWhole t now) }
     {
+        if some_two_left(&self.progress) {
+            let (epoch, mut parts) = self.open_epoch()?;
+            run_parts(rt, &epoch, &mut parts, gate);
+            let (next, turn) = epoch.close_epoch(rt, parts, pool, gate)?;
+            return Ok((next, turn));
+        }
         let (manager, ends) = self.run_epoch(gate)?;
         let scheduler = Scheduler { rt, pool, gate };
         let (manager, turn) = manager.make_stop(&scheduler, &ends)?;

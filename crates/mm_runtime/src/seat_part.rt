@@ -1,7 +1,7 @@
 //! A mutator's part of an epoch whose mutators run on threads.
 
 ghost use Rattle.std.specs.Prelude.{◌≡◌, ◌+◌, ◌<◌, ◌≤◌, ◌^◌, None, length, MatchOption, IfNone, IfSome, false};
-ghost use Rattle.mm_runtime.specs.Prelude.{IsValid, MayCall, has_raised, next_in_trace, IsProgress, SeatGetsReply, SeatEndsPart, SeatEndsFor, RunsSeat, HasFewBirths, IsPartOf, RunsPartOf, RepliesSince, State, Rules, HasEndedFor, IsFreshSeat, raises_stop};
+ghost use Rattle.mm_runtime.specs.Prelude.{IsValid, MayCall, has_raised, next_in_trace, IsProgress, SeatGetsReply, SeatGoesOn, SeatEndsPart, SeatEndsFor, RunsSeat, HasFewBirths, IsPartOf, RunsPartOf, RepliesSince, State, Rules, HasEndedFor, IsFreshSeat, raises_stop};
 ghost use Rattle.mm_runtime.specs.Prelude.command_is;
 
 use crate::progress::{PartEnd, Progress};
@@ -72,7 +72,7 @@ fn allocate_at<P: Plan, G: Gate>(
 {
     let number = seat.number();
     gate.pass(number, Point::Alloc);
-    match world.new_in_free_blocks(seat, d, refs, nums) {
+    match world.new_object(seat, d, refs, nums) {
         Allocated::Made(name) => {
             gate.pass(number, Point::Publish);
             replies.push_reserved(Reply::New(name));
@@ -99,7 +99,7 @@ fn step_at<P: Plan, G: Gate>(
     requires few { length replies.old.items + 1 < 2 ^ 32 }
     requires room { length replies.old.items < replies.old.capacity }
     ensures { MatchOption result
-        (SeatGetsReply P.rules world.now seat.old stored.entry replies.old seat.new replies.new)
+        (SeatGoesOn P.rules world.now seat.old stored.entry replies.old seat.new replies.new)
         (SeatEndsPart P.rules world.now seat.old stored.entry replies.old seat.new replies.new) }
 {
     gate.pass(seat.number(), Point::Poll);

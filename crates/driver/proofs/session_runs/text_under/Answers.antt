@@ -13,7 +13,7 @@ returns-in-Files g c plan blocks =
     let traces = c.args.traces.items in
     let n = length traces in
     let t : Setting = setting_of job traces in
-    let rules : t.rules ≡ g.P.Plan.rules = ap rules_of plan ∙ sym g.met.P.Plan.rules_are_of_plan in
+    let rules : t.rules ≡ g.P.Plan.rules = ap rules_of plan ∙ sym (g.met.P.Plan g.world.𝓛 g.world.𝓜 g.world.𝓡 ((λ s x. x), (λ x. x), (λ x. x), λ x. x)).rules_are_of_plan in
     let whole = c.in_ok-manager.ensures.whole t rules blocks refl refl in
     on-ok c.session_text.result (λ v. IsSessionText g.P.Plan.plan n job.map whole.0 v.items) (λ v. IsWholeText job traces v.items)
     (λ v text. record {
@@ -29,7 +29,7 @@ returns g c plan blocks =
     let traces = c.args.traces.items in
     let n = length traces in
     let t : Setting = setting_of job traces in
-    let rules : t.rules ≡ g.P.Plan.rules = ap rules_of plan ∙ sym g.met.P.Plan.rules_are_of_plan in
+    let rules : t.rules ≡ g.P.Plan.rules = ap rules_of plan ∙ sym (g.met.P.Plan g.world.𝓛 g.world.𝓜 g.world.𝓡 ((λ s x. x), (λ x. x), (λ x. x), λ x. x)).rules_are_of_plan in
     let whole = c.in_ok-manager.ensures.whole t rules blocks refl refl in
     on-ok c.summary_text.result (λ v. IsSummary c.in-Made.commands whole.0 v.items) (λ v. IsWholeText job traces v.items)
     (λ v text. record {

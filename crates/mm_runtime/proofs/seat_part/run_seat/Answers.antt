@@ -42,7 +42,7 @@ pub loop-stored-smaller : goal.loop-stored-smaller
 loop-stored-smaller g c =
     let is : next_in_trace c.loop-stored.progress ≡ Some c.in-Some.stored = replying.next-read c.loop-stored.progress c.len.result _ c.len.ensures c.in-Some.ensures in
     let more = replying.next-within c.loop-stored.progress c.in-Some.stored is in
-    let gets = c.in_default-step_at.ensures in
+    let gets = seats.gets-of g.P.Plan.rules c.args.world.now c.loop-stored.seat c.step_at.new.seat c.in-Some.stored c.loop-stored.progress.replies c.step_at.new.replies c.in_default-step_at.ensures in
     let count : length c.step_at.new.replies.items ≡ length c.loop-stored.progress.replies.items + 1 =
     ap length gets.items ∙ length-append c.loop-stored.progress.replies.items (gets.reply ∷ []) in
     omega arith
@@ -53,10 +53,10 @@ loop-stored-preserved g c =
     let new : Progress = record { trace = c.loop-stored.progress.trace; replies = c.step_at.new.replies } in
     let is : next_in_trace old ≡ Some c.in-Some.stored = replying.next-read old c.len.result _ c.len.ensures c.in-Some.ensures in
     let now = c.loop-stored.invariant in
-    let gets = c.in_default-step_at.ensures in record {
+    let gets = seats.gets-of g.P.Plan.rules c.args.world.now c.loop-stored.seat c.step_at.new.seat c.in-Some.stored old.replies new.replies c.in_default-step_at.ensures in record {
       call = gets.answers.call;
-      runs = seats.runs-more g.P.Plan.rules c.args.world.now c.args.seat.now c.loop-stored.seat c.step_at.new.seat c.args.progress.now old new c.in-Some.stored gets.reply
-          now.runs gets.answers is refl gets.items;
+      runs = seats.runs-more g.P.Plan.rules c.args.world.now c.args.seat.now c.loop-stored.seat c.step_at.new.seat c.args.progress.now old new c.in-Some.stored
+          now.runs c.in_default-step_at.ensures is refl;
       in_order = replying.order-more old new c.in-Some.stored gets.reply now.in_order is refl gets.items gets.capacity;
       births = few-more g.P.Plan.rules c.args.world.now c.loop-stored.seat c.step_at.new.seat c.in-Some.stored gets.reply old.replies.items c.step_at.new.replies.items gets.answers gets.items now.births;
       calm = gets.raised ∙ now.calm;

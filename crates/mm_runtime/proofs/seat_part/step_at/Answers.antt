@@ -5,7 +5,7 @@ use Rattle.ideal_heap.specs.declared.command.Command.{Command}
 use Rattle.mm_runtime.specs.SeatParts.{SeatEndsPart, SeatGetsReply}
 use Rattle.mm_runtime.proofs.SeatBirths.{few-same}
 use Rattle.mm_runtime.proofs.SeatHistories.{number-some}
-use Rattle.mm_runtime.proofs.SeatReplies.{gets-after, seat-append, seat-nothing, step-after}
+use Rattle.mm_runtime.proofs.SeatReplies.{goes-on, seat-append, seat-nothing, step-after}
 use Rattle.mm_runtime.proofs.seat_part.step_at.Goals as goal
 
 pub returns-in-Raised : goal.returns-in-Raised
@@ -51,13 +51,13 @@ pub returns-in-New : goal.returns-in-New
 returns-in-New g c =
     let poll = c.poll.ensures in
     step-after g.P.Plan.rules c.args.world.now c.args.seat.now c.poll.new.seat c.allocate_at.new.seat c.args.stored c.args.replies.now c.allocate_at.new.replies
-    (seat-nothing g.P.Plan.rules c.args.world.now c.args.seat.now c.poll.new.seat poll.nothing) poll.kept c.allocate_at.result
+    (seat-nothing g.P.Plan.rules c.args.world.now c.args.seat.now c.poll.new.seat poll.nothing) poll.kept c.allocate_at.result c.in_default.ensures.stop
     (subst (λ (x : Command). MatchOption c.allocate_at.result (SeatGetsReply g.P.Plan.rules c.args.world.now c.poll.new.seat x c.args.replies.now c.allocate_at.new.seat c.allocate_at.new.replies)
     (SeatEndsPart g.P.Plan.rules c.args.world.now c.poll.new.seat x c.args.replies.now c.allocate_at.new.seat c.allocate_at.new.replies)) (sym c.in-New.is ∙ c.command-command.ensures) c.allocate_at.ensures)
 
 pub returns-in_default-command : goal.returns-in_default-command
 returns-in_default-command g c =
     let poll = c.poll.ensures in
-    gets-after g.P.Plan.rules c.args.world.now c.args.seat.now c.poll.new.seat c.perform_at.new.seat c.args.stored c.args.replies.now c.perform_at.new.replies
-    (seat-nothing g.P.Plan.rules c.args.world.now c.args.seat.now c.poll.new.seat poll.nothing) poll.kept
+    goes-on g.P.Plan.rules c.args.world.now c.args.seat.now c.poll.new.seat c.perform_at.new.seat c.args.stored c.args.replies.now c.perform_at.new.replies
+    (seat-nothing g.P.Plan.rules c.args.world.now c.args.seat.now c.poll.new.seat poll.nothing) poll.kept c.in_default.ensures.stop
     (subst (λ (x : Command). SeatGetsReply g.P.Plan.rules c.args.world.now c.poll.new.seat x c.args.replies.now c.perform_at.new.seat c.perform_at.new.replies) c.command-command.ensures c.perform_at.ensures)

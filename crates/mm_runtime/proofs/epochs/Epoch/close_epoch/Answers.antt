@@ -1,6 +1,9 @@
 -- The rest of the parts and the stop make the epoch whole.
 use Rattle.std.proofs.Common.{◌≡◌, ◌<◌, sym, subst, List, length}
+use Rattle.std.specs.Prelude.{All}
 use Rattle.mm_runtime.specs.declared.progress.PartEnd.{PartEnd}
+use Rattle.mm_runtime.specs.declared.seat_part.Part.{Part}
+use Rattle.mm_runtime.specs.SeatParts.{IsPartOf}
 use Rattle.mm_runtime.specs.declared.manager.Manager.{Manager}
 use Rattle.mm_runtime.specs.Parts.{AreGcs, AreNeeds}
 use Rattle.mm_runtime.specs.OpenEpochs.{EndsParts, IsEpochOf, MakesEpoch}
@@ -12,22 +15,29 @@ use Rattle.mm_runtime.proofs.epochs.Epoch.close_epoch.Goals as goal
 pub run_in_turn-requires-clause-parts : goal.run_in_turn-requires-clause-parts
 run_in_turn-requires-clause-parts g c κs within =
     let ready = c.requires.ready in
-    later.all-belong g.P.Plan.rules ready.0 c.args.self c.args.parts.items ready.2
+    subst (λ (ps : List Part). All (IsPartOf g.P.Plan.rules c.args.self.world) ps) (sym c.as_mut_slice.ensures.value)
+    (later.all-belong g.P.Plan.rules ready.0 c.args.self c.args.parts.items ready.2)
 
 pub close-requires-clause-ready : goal.close-requires-clause-ready
 close-requires-clause-ready g c =
-    let ready = c.requires.ready in
-    (ready.0, ready.1, later.later g.P.Plan.rules ready.0 c.args.self c.args.parts.items c.run_in_turn.new.parts.items ready.2 c.run_in_turn.ensures)
+    let ready = c.requires.ready in (
+      ready.0,
+      ready.1,
+      later.later g.P.Plan.rules ready.0 c.args.self c.args.parts.items _ ready.2
+          (later.ran-lent g.P.Plan.rules c.args.self.world c.args.parts.items c.run_in_turn.new.parts c.as_mut_slice.result.now c.args.parts.len c.as_mut_slice.ensures.value c.args.parts.ok.0 c.run_in_turn.ensures),
+    )
 
 pub close-requires-clause-ended : goal.close-requires-clause-ended
 close-requires-clause-ended g c =
     let ready = c.requires.ready in
-    later.all-ended g.P.Plan.rules ready.0 c.args.self c.args.parts.items c.run_in_turn.new.parts.items ready.2 c.run_in_turn.ensures
+    later.all-ended g.P.Plan.rules ready.0 c.args.self c.args.parts.items _ ready.2
+    (later.ran-lent g.P.Plan.rules c.args.self.world c.args.parts.items c.run_in_turn.new.parts c.as_mut_slice.result.now c.args.parts.len c.as_mut_slice.ensures.value c.args.parts.ok.0 c.run_in_turn.ensures)
 
 pub make_stop-requires-clause-stop : goal.make_stop-requires-clause-stop
 make_stop-requires-clause-stop g c κs within =
     let ready = c.requires.ready in
-    let part = c.in_ok-manager.ensures.part ready.0 (later.later g.P.Plan.rules ready.0 c.args.self c.args.parts.items c.run_in_turn.new.parts.items ready.2 c.run_in_turn.ensures) ready.1.setting ready.1.now ready.1.closes in
+    let part = c.in_ok-manager.ensures.part ready.0 (later.later g.P.Plan.rules ready.0 c.args.self c.args.parts.items _ ready.2
+    (later.ran-lent g.P.Plan.rules c.args.self.world c.args.parts.items c.run_in_turn.new.parts c.as_mut_slice.result.now c.args.parts.len c.as_mut_slice.ensures.value c.args.parts.ok.0 c.run_in_turn.ensures)) ready.1.setting ready.1.now ready.1.closes in
     record { order = c.in_ok-manager.ensures.order; setting = ready.1.setting; now = part.0; stands = part.2 }
 
 pub make_stop-requires-clause-gcs : goal.make_stop-requires-clause-gcs
@@ -41,7 +51,8 @@ make_stop-requires-clause-needs g c κs within =
 pub returns-clause-epoch : goal.returns-clause-epoch
 returns-clause-epoch g c old is = c.in_ok-manager-2.ensures.epoch old
     (subst (λ (es : List PartEnd). EndsParts g.P.Plan.rules old es c.in_ok-manager.manager) (sym c.deref.ensures.value)
-    (c.in_ok-manager.ensures.part old (later.later g.P.Plan.rules old c.args.self c.args.parts.items c.run_in_turn.new.parts.items is c.run_in_turn.ensures)))
+    (c.in_ok-manager.ensures.part old (later.later g.P.Plan.rules old c.args.self c.args.parts.items _ is
+    (later.ran-lent g.P.Plan.rules c.args.self.world c.args.parts.items c.run_in_turn.new.parts c.as_mut_slice.result.now c.args.parts.len c.as_mut_slice.ensures.value c.args.parts.ok.0 c.run_in_turn.ensures))))
 
 pub returns-clause-ready : goal.returns-clause-ready
 returns-clause-ready g c =

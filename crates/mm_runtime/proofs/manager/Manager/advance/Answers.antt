@@ -7,6 +7,21 @@ use Rattle.mm_runtime.proofs.Advancing.{goes-on-more}
 use Rattle.mm_runtime.proofs.Remaining.{fewer, whole}
 use Rattle.mm_runtime.proofs.manager.Manager.advance.Goals as goal
 
+pub run_parts-requires-clause-ready : goal.run_parts-requires-clause-ready
+run_parts-requires-clause-ready g c κs within = (c.args.self, c.requires.ready, c.in_ok-epoch.ensures.epoch)
+
+pub close_epoch-requires-clause-ready : goal.close_epoch-requires-clause-ready
+close_epoch-requires-clause-ready g c κs within = (c.args.self, c.requires.ready, c.run_parts.ensures.epoch c.args.self c.in_ok-epoch.ensures.epoch)
+
+pub returns-then-some_two_left-clause-epoch : goal.returns-then-some_two_left-clause-epoch
+returns-then-some_two_left-clause-epoch g c = c.in_ok-next.ensures.epoch c.args.self (c.run_parts.ensures.epoch c.args.self c.in_ok-epoch.ensures.epoch)
+
+pub returns-then-some_two_left-clause-more : goal.returns-then-some_two_left-clause-more
+returns-then-some_two_left-clause-more g c = c.in_ok-next.ensures.more c.args.self c.requires.ready (c.run_parts.ensures.epoch c.args.self c.in_ok-epoch.ensures.epoch)
+
+pub returns-then-some_two_left-clause-left : goal.returns-then-some_two_left-clause-left
+returns-then-some_two_left-clause-left g c = c.in_ok-next.ensures.left c.args.self c.requires.ready (c.run_parts.ensures.epoch c.args.self c.in_ok-epoch.ensures.epoch)
+
 pub make_stop-requires-clause-stop : goal.make_stop-requires-clause-stop
 make_stop-requires-clause-stop g c κs within =
     let ready = c.requires.ready in
@@ -15,15 +30,15 @@ make_stop-requires-clause-stop g c κs within =
 
 pub make_stop-requires-clause-gcs : goal.make_stop-requires-clause-gcs
 make_stop-requires-clause-gcs g c κs within =
-    subst (λ (es : List PartEnd). AreGcs c.in_ok-manager.manager.progress.items es) (sym c.deref.ensures.value) c.in_ok-manager.ensures.gcs
+    subst (λ (es : List PartEnd). AreGcs c.in_ok-manager.manager.progress.items es) (sym c.deref-2.ensures.value) c.in_ok-manager.ensures.gcs
 
 pub make_stop-requires-clause-needs : goal.make_stop-requires-clause-needs
 make_stop-requires-clause-needs g c κs within =
-    subst (λ (es : List PartEnd). AreNeeds c.in_ok-manager.manager.progress.items es) (sym c.deref.ensures.value) c.in_ok-manager.ensures.needs
+    subst (λ (es : List PartEnd). AreNeeds c.in_ok-manager.manager.progress.items es) (sym c.deref-2.ensures.value) c.in_ok-manager.ensures.needs
 
 pub returns-clause-epoch : goal.returns-clause-epoch
 returns-clause-epoch g c = c.in_ok-manager-2.ensures.epoch c.args.self
-    (subst (λ (es : List PartEnd). EndsParts g.P.Plan.rules c.args.self es c.in_ok-manager.manager) (sym c.deref.ensures.value) c.in_ok-manager.ensures.part)
+    (subst (λ (es : List PartEnd). EndsParts g.P.Plan.rules c.args.self es c.in_ok-manager.manager) (sym c.deref-2.ensures.value) c.in_ok-manager.ensures.part)
 
 pub returns-clause-ready : goal.returns-clause-ready
 returns-clause-ready g c =
