@@ -2,15 +2,34 @@
 use Rattle.std.proofs.Common.{◌≡◌, refl, ℕ, ◌+◌, ◌-◌, ◌*◌, ◌/◌, ◌%◌, ◌<◌, ◌≤◌, arith, inl, inr, Bool, true, false, nat_le, List, ◌++◌}
 use Rattle.std.specs.Prelude.{◌⊎◌, if◌then◌else◌, min}
 use Rattle.std.proofs.lemmas.Bool.{cases_lt, leb-true, leb-false}
-use Rattle.driver.specs.MapPlaces.{HasWord}
+use Rattle.object_model.specs.Objects.{blocks_for}
+use Rattle.driver.specs.MapPlaces.{HasWord, LiesInBlocks}
 use Rattle.heap_picture.specs.declared.forms.Place.{Place}
 use Rattle.heap_picture.specs.declared.bars.Rect.{Rect}
-use Rattle.heap_picture.specs.Bars.{BarCovers, word_shown, CoversOne, map_place, part_rects, whole_rects}
+use Rattle.heap_picture.specs.Bars.{BarCovers, Covers, cell_rect, word_shown, CoversOne, map_place, part_rects, whole_rects}
 use Rattle.heap_picture.proofs.BarCells.{InBlocks, InPart, part_covered, covers_part, blocks_covered, rest_covered, covers_blocks}
 
 -- the square is that of a word of the object
 abbrev pub InObject : Place → ℕ → ℕ → Type 0
 InObject p x y = (x < 4096) × HasWord (map_place p) (word_shown x y)
+
+-- the cell of a word's block has its square
+pub in_cell : (b x y : ℕ) → x < 4096 → 4096 * b ≤ word_shown x y → word_shown x y < 4096 * b + 4096 → Covers (cell_rect b) x y
+in_cell b x y low from below = record { left = omega (arith, low, from, below); right = omega (arith, low, from, below); top = omega (arith, low, from, below); bottom = omega (arith, low, from, below) }
+
+-- the cell of the object's block that has the word
+pub in_cells : (blocks : ℕ) (p : Place) (x y : ℕ) → LiesInBlocks blocks (map_place p) → p.size ≤ 61027 → InObject p x y
+    → (b : ℕ) × (p.block ≤ b) × (b < p.block + blocks_for p.size) × (b < blocks) × Covers (cell_rect b) x y
+in_cells blocks p x y lies most is =
+    let i : ℕ = word_shown x y in
+    let from : 4096 * p.block + p.word ≤ i = is.1.from in
+    let below : i < 4096 * p.block + p.word + p.size = is.1.below in
+    let inside : i < 4096 * blocks = lies.inside i is.1 in
+    let within : i / 4096 < p.block + blocks_for p.size = elim (cases_lt 2048 p.size) as (λ _. i / 4096 < p.block + blocks_for p.size) [
+      | inl big ↦ (let start : p.word ≡ 0 = lies.large big in omega (arith, below, start))
+      | inr few ↦ (let end : p.word + p.size ≤ 4096 = lies.medium (omega (arith, few)) in omega (arith, from, below, end))
+    ] in
+    (i / 4096, omega (arith, from), within, omega (arith, inside), in_cell (i / 4096) x y is.0 (omega arith) (omega arith))
 
 abbrev rects_by : Bool → Place → List Rect
 rects_by b p = if b then part_rects p.block p.word (p.word + p.size)

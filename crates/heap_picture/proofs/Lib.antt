@@ -22,14 +22,10 @@ mod RepliesRead
 mod Reported
 mod SessionBirths
 mod SessionBlocks
-mod SessionCollections
 mod SessionCounts
 mod SessionFills
-mod SessionHeld
 mod SessionKinds
-mod SessionLarge
 mod SessionPlaces
-mod SessionRoom
 mod SessionTexts
 mod Sums
 mod Taken

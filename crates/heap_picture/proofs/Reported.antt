@@ -11,6 +11,7 @@ use Rattle.heap_picture.specs.declared.reader.Stage.{Stage}
 use Rattle.heap_picture.specs.declared.reader.Stage.TheVariants as stages
 use Rattle.heap_picture.specs.Forms.{LARGE, kinds_in, one_number, two_numbers}
 use Rattle.heap_picture.specs.Reading.{Begun, after_line, as_blocks, as_collections, as_held, as_kinds, as_live, as_known, blocks_in, goes_to, has_young, have_sizes, is_whole, may_be_held, may_collect, may_have_kinds, no_report, no_wants, strange_in}
+use Rattle.session_counts.specs.Sizes.{may_fill}
 use Rattle.heap_picture.specs.Texts.{count_lines, kinds_line_text, two_text}
 use Rattle.heap_picture.proofs.Choices.{LeadsBy, chosen, first_of, then_read}
 use Rattle.heap_picture.proofs.KindsRead.{kinds_again, kinds_read}
@@ -152,9 +153,9 @@ checked_step word other test to s end lines More unfinished after later leads =
     let l = first_of lines s end unfinished leads in
     checked_by word other test to s end lines More l (sym (after l.line) ∙ l.is) later
 
--- the blocks of the kinds fill a heap of n blocks
+-- the blocks of the kinds fill a heap of n blocks, and the objects may fill them
 abbrev fills : PlanName → ℕ → Pair → KindCounts → Bool
-fills plan n z kinds = nat_eq (blocks_in kinds) n && nat_eq (strange_in plan kinds) 0 && nat_le z.second (4096 * (n - kinds.free))
+fills plan n z kinds = nat_eq (blocks_in kinds) n && nat_eq (strange_in plan kinds) 0 && nat_le z.second (4096 * (n - kinds.free)) && may_fill z.first z.second kinds.large (n - kinds.free - kinds.large)
 
 -- the lines from each line of a report on
 record FromKinds (plan : PlanName) (k c f : ℕ) (bs : List ℕ) (n : ℕ) (x y z : Pair) (end : Begun) (lines : List (List ℕ)) : Type 0 where

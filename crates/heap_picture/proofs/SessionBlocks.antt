@@ -16,10 +16,11 @@ use Rattle.std.proofs.lemmas.List.{get_or-map, length-map}
 use Rattle.driver.specs.MapPlaces.{AreDisjoint, HasWord}
 use Rattle.heap_picture.specs.declared.forms.Place.{Place}
 use Rattle.heap_picture.specs.Bars.{room_of}
-use Rattle.heap_picture.specs.Reading.{own_blocks}
-use Rattle.heap_picture.proofs.SessionLarge.{large-at, one-owner}
+use Rattle.session_counts.specs.Sizes.{own_blocks}
+use Rattle.session_counts.proofs.LargeBlocks.{large-at, one-owner}
 use Rattle.heap_picture.proofs.Taken.{Apart}
-use Rattle.heap_picture.specs.Marks.{has_block, is_used, shared_blocks, room_words}
+use Rattle.heap_picture.specs.Marks.{has_block, is_used, room_words}
+use Rattle.session_counts.specs.Sizes.{shared_blocks}
 use Rattle.heap_picture.specs.Sessions.{place_seen, places_of}
 use Rattle.heap_picture.specs.Texts.{small_blocks}
 use Rattle.driver.specs.Texts.{place_of, MapPlace}

@@ -1,7 +1,7 @@
 -- The places of a sound moment's live objects, and its report.
-use Rattle.std.proofs.Common.{◌≡◌, refl, sym, ◌∙◌, ap, subst, ℕ, suc, ◌+◌, ◌-◌, ◌*◌, ◌<◌, ◌≤◌, arith, inl, inr, true, List, [], ◌∷◌, length, map, Ok}
+use Rattle.std.proofs.Common.{◌≡◌, refl, sym, ◌∙◌, ap, subst, ℕ, suc, ◌+◌, ◌-◌, ◌<◌, ◌≤◌, arith, inl, inr, true, ◌||◌, List, [], ◌∷◌, length, map, Ok}
 use Rattle.std.specs.Prelude.{slice_index_or}
-use Rattle.std.specs.List.{All, AllByRecursion, AllPairs, range_with_len}
+use Rattle.std.specs.List.{All, AllByRecursion, AllPairs, list_any, range_with_len}
 use Rattle.std.proofs.lemmas.Bool.{cases_Bool, cases_lt}
 use Rattle.std.proofs.lemmas.List.Elements.{All-from_recursion, recursion_from_All}
 use Rattle.std.proofs.lemmas.List.{get_or_default, get_or-map, length-map}
@@ -9,7 +9,7 @@ use Rattle.std.proofs.lemmas.List.FromFn.{get_or-range_with_len, length-range_wi
 use Rattle.ideal_heap.specs.Names.{IsBefore}
 use Rattle.ideal_heap.specs.Ideal.{empty}
 use Rattle.ideal_heap.specs.Runs.{heap_after_run, replies_of}
-use Rattle.object_model.specs.Counting.{count_words_at, held_in}
+use Rattle.object_model.specs.Counting.{count_words_at}
 use Rattle.object_model.specs.Graphs.{MutatorState, numbers_of}
 use Rattle.object_model.specs.Objects.{HeapState, IsHeld, name_at, nums_at, refs_at, size_at, size_of}
 use Rattle.object_model.specs.Lawful.{HasObject, IsWellFormed}
@@ -22,17 +22,22 @@ use Rattle.command_line.specs.Orders.{plan_in}
 use Rattle.command_line.specs.declared.order.PlanName.{PlanName}
 use Rattle.driver.specs.MapPlaces.{AreDisjoint, LiesInBlocks}
 use Rattle.driver.specs.Texts.{AreLive, IsSessionText, place_of}
-use Rattle.heap_picture.specs.Reading.{has_young, own_blocks, text_read}
+use Rattle.heap_picture.specs.Reading.{has_young, text_read}
 use Rattle.heap_picture.specs.Sessions.{HasNumbers, place_seen, places_of, replies_in, report_of}
-use Rattle.heap_picture.specs.Texts.{AllNamesInOrder, CountsCollections, IsBorn, IsPlaceIn, Reports, births_in, large_blocks, whole}
+use Rattle.heap_picture.specs.Texts.{AllNamesInOrder, CountsCollections, IsBorn, IsPlaceIn, Reports, births_in, large_blocks, small_blocks, whole}
 use Rattle.heap_picture.proofs.Mapped.{blocks_of, words_in}
 use Rattle.heap_picture.proofs.SessionBirths.{all-named, births-counted, none-said}
-use Rattle.heap_picture.proofs.SessionCollections.{refused-in, session-fair}
+use Rattle.session_counts.specs.HeapCounts.{Distinct, HasOtherSizes, lies_in_block, own_in, shared_in}
+use Rattle.session_counts.specs.Sizes.{AreSizes, own_blocks}
+use Rattle.session_counts.proofs.Collections.{refused-in, session-fair}
+use Rattle.session_counts.proofs.FilledBlocks.{session-filled}
+use Rattle.session_counts.proofs.HeldRoom.{held-fit}
+use Rattle.session_counts.proofs.OtherObjects.{other-sizes, size-in}
+use Rattle.session_counts.proofs.Weights.{below-same, weigh_list, weighed}
+use Rattle.object_model.specs.Times.{one_if}
+use Rattle.heap_picture.specs.Marks.{is_used}
 use Rattle.heap_picture.proofs.SessionFills.{known-kinds}
-use Rattle.heap_picture.proofs.SessionRoom.{held-fit}
 use Rattle.heap_picture.proofs.SessionCounts.{all-counted, all-print, all-short, full-counted}
-use Rattle.heap_picture.proofs.SessionHeld.{Compared, Distinct, held-compared, weigh_list}
-use Rattle.heap_picture.proofs.SessionLarge.{large-fit}
 use Rattle.heap_picture.proofs.SessionBlocks.{live-rooms, small-fit}
 use Rattle.heap_picture.proofs.SessionKinds.{kinds-add-up}
 use Rattle.heap_picture.proofs.Mutators.{IsShort, news}
@@ -50,6 +55,13 @@ seen-words s (a ∷ live) = ap (λ n. size_at s a + n) (seen-words s live)
 seen-blocks : (s : HeapState) (live : List ℕ) → blocks_of (places_of s live) ≡ weigh_list (λ (a : ℕ). own_blocks (size_at s a)) live
 seen-blocks s [] = refl
 seen-blocks s (a ∷ live) = ap (λ n. own_blocks (size_at s a) + n) (seen-blocks s live)
+
+any-seen : (s : HeapState) (k : ℕ) (live : List ℕ) → list_any (lies_in_block s k) live ≡ is_used (places_of s live) k
+any-seen s k [] = refl
+any-seen s k (a ∷ live) = ap (λ b. lies_in_block s k a || b) (any-seen s k live)
+
+seen-shared : (s : HeapState) (live : List ℕ) → shared_in s live ≡ small_blocks s.blocks (places_of s live)
+seen-shared s live = below-same (λ k. one_if (list_any (lies_in_block s k) live)) (λ k. one_if (is_used (places_of s live) k)) s.blocks (λ k. ap one_if (any-seen s k live))
 
 first-differs : (x : ℕ) (xs : List ℕ) → AllPairs (λ (x y : ℕ). x ≡ y → ⊥) (x ∷ xs) → All (λ y. x ≡ y → ⊥) xs
 first-differs x xs pairs i d low = pairs 0 (suc i) d (omega arith) (omega (arith, low))
@@ -160,9 +172,6 @@ module _ (t : Setting) (last : Moment) (live : List ℕ) (sound : IsSound t last
       subst (IsBorn (replies_in (length t.traces) last)) (sym (get_or-map look live i 0 d few)) (born-in ended (slice_index_or live i 0) (live-held i few))
 
   -- the live objects are held, each once
-  size-in : (a : ℕ) → IsHeld last.heap a → (3 ≤ size_at last.heap a) × (size_at last.heap a ≤ 61027)
-  size-in a held = let object : HasObject last.heap a = (order.objects.headers a held).object in sizes (refs_at last.heap a) (nums_at last.heap a) object.refs object.nums
-
   each-held : AllByRecursion (IsHeld last.heap) live
   each-held = recursion_from_All (IsHeld last.heap) live (λ i d low. subst (IsHeld last.heap) (get_or_default live i 0 d low) (live-held i low))
 
@@ -183,9 +192,6 @@ module _ (t : Setting) (last : Moment) (live : List ℕ) (sound : IsSound t last
 
   rooms : AllPairs AreDisjoint (map (place_of last.heap) live) → AllPairs Apart (places_of last.heap live)
   rooms apart = live-rooms last.heap order live live-held differ apart
-
-  compared : Compared (length (held_in last.heap)) (count_words_at last.heap (held_in last.heap)) (length live) (count_words_at last.heap live)
-  compared = held-compared last.heap size-in live each-held (distinct-by live differ)
 
   pub each-in : All (IsPlaceIn (length t.traces) last.heap.blocks) (places_of last.heap live)
   each-in i d low =
@@ -217,15 +223,11 @@ module _ (t : Setting) (last : Moment) (live : List ℕ) (sound : IsSound t last
       let all = replies_in (length t.traces) last in
       let ps = places_of last.heap live in
       let each = ended.order.mutators in
-      let held = compared in
-      let h : ℕ = length (held_in last.heap) in
-      let w : ℕ = count_words_at last.heap (held_in last.heap) in
-      let k : ℕ = length live in
-      let v : ℕ = count_words_at last.heap live in
-      let fewer : k ≤ h = held.objects in
-      let within : v ≤ w = held.fewer in
-      let low : 3 * h + v ≤ w + 3 * k = held.least in
-      let high : w + 61027 * k ≤ 61027 * h + v = held.most in
+      let held : HasOtherSizes last.heap live = other-sizes last.heap order live each-held (distinct-by live differ) (session-filled t last ended.session) in
+      let r = report_of plan (length t.traces) last live in
+      let large-is : own_in last.heap live ≡ large_blocks ps = weighed (λ (a : ℕ). own_blocks (size_at last.heap a)) live ∙ sym (large_are ps ∙ seen-blocks last.heap live) in
+      let small-is : shared_in last.heap live ≡ small_blocks last.heap.blocks ps = seen-shared last.heap live in
+      let large : own_in last.heap live ≤ large_of last.heap = held.large in
       record {
         mutators = sym (length-map (range_with_len 1 (length t.traces)) (λ (m : ℕ). replies_of m last.done) ∙ length-range_with_len 1 (length t.traces));
         some = some;
@@ -234,13 +236,16 @@ module _ (t : Setting) (last : Moment) (live : List ℕ) (sound : IsSound t last
         full = full-counted (length t.traces) last.done each ∙ sym (all_refusals_are all);
         live = sym (length-map live (λ (a : ℕ). place_seen (place_of last.heap a)));
         words = sym (words_are ps ∙ seen-words last.heap live);
-        held = fewer;
-        held_words = within;
-        others = record { least = omega (arith, fewer, within, low); most = omega (arith, fewer, within, high) };
-        room = held-fit last.heap sound.lawful.but_lines (λ a held. (size-in a held).0);
+        held = held.objects;
+        held_words = held.words;
+        others = record {
+          sizes = held.sizes;
+          are = subst (λ (n : ℕ). AreSizes (r.held - r.live) (r.held_words - r.live_words) (r.kinds.large - n) (r.blocks - r.kinds.free - r.kinds.large - small_blocks r.blocks ps) held.sizes) large-is
+              (subst (λ (n : ℕ). AreSizes (r.held - r.live) (r.held_words - r.live_words) (r.kinds.large - own_in last.heap live) (r.blocks - r.kinds.free - r.kinds.large - n) held.sizes) small-is held.are);
+        };
+        room = held-fit last.heap sound.lawful.but_lines (λ a held. (size-in last.heap order a held).least);
         collections = collections-of plan same ended.session;
-        large = let same : large_blocks ps ≡ weigh_list (λ (a : ℕ). own_blocks (size_at last.heap a)) live = large_are ps ∙ seen-blocks last.heap live in
-            let few : weigh_list (λ (a : ℕ). own_blocks (size_at last.heap a)) live ≤ large_of last.heap = large-fit last.heap order live each-held (distinct-by live differ) in omega (arith, same, few);
+        large = omega (arith, large, large-is);
         small = small-fit last.heap order live each-held;
         kinds = kinds-add-up last.heap sound.lawful.but_lines.blocks;
         of_plan = known-kinds t plan last same ended.session;

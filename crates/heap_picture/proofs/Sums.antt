@@ -13,7 +13,7 @@ use Rattle.heap_picture.proofs.Mapped.{Precedes, Rises, blocks_of, words_in}
 use Rattle.heap_picture.proofs.Mutators.{all_refusals, all_replies, news, one_if, refusals}
 use Rattle.made_trace.specs.Counts.{is_new_reply}
 use Rattle.heap_picture.specs.Texts.{births_in, large_blocks}
-use Rattle.heap_picture.specs.Reading.{own_blocks}
+use Rattle.session_counts.specs.Sizes.{own_blocks}
 
 pub refusals_are : (rs : List Reply) → count_by is_full rs ≡ refusals rs
 refusals_are [] = refl

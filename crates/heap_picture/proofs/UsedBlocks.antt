@@ -1,28 +1,19 @@
 -- The blocks of small and medium objects, counted place by place and block by block.
-use Rattle.std.proofs.Common.{◌≡◌, refl, sym, ◌∙◌, ap, ℕ, zero, suc, ◌+◌, ◌*◌, ◌<◌, ◌≤◌, arith, inl, inr, Bool, true, false, ◌||◌, nat_le, nat_lt, List, [], ◌∷◌, ◌++◌, append_assoc, append-nil}
+use Rattle.std.proofs.Common.{◌≡◌, refl, sym, ◌∙◌, ap, ℕ, ◌+◌, ◌*◌, ◌<◌, ◌≤◌, arith, inl, inr, Bool, true, false, ◌||◌, nat_le, nat_lt, List, [], ◌∷◌, ◌++◌, append_assoc, append-nil}
 use Rattle.std.specs.Prelude.{if◌then◌else◌}
 use Rattle.std.specs.List.{AllByRecursion}
 use Rattle.std.proofs.lemmas.Bool.{cases_Bool, cases_eq, and_from, and_parts, le-leb, leb-true, lt-ltb, ltb-true}
 use Rattle.std.proofs.lemmas.List.Folds.{list_any-append}
 use Rattle.object_model.specs.Times.{one_if}
-use Rattle.object_model.proofs.HeldCounts.{below, below-more, below-none}
+use Rattle.object_model.proofs.HeldCounts.{below, below-none}
 use Rattle.heap_picture.specs.declared.forms.Place.{Place}
-use Rattle.heap_picture.specs.Marks.{has_block, is_used, shared_blocks}
+use Rattle.heap_picture.specs.Marks.{has_block, is_used}
+use Rattle.session_counts.specs.Sizes.{shared_blocks}
 use Rattle.heap_picture.specs.Reading.{new_blocks}
 use Rattle.heap_picture.specs.Texts.{IsPlaceIn, small_blocks}
 use Rattle.heap_picture.proofs.Lies.{ends_within}
 use Rattle.heap_picture.proofs.Mapped.{added_to}
-use Rattle.heap_picture.proofs.SessionHeld.{below-sum, one-weight, weight, weight-off, weight-on}
-
-pub below-same : (f g : ℕ → ℕ) (n : ℕ) → ((k : ℕ) → f k ≡ g k) → below f n ≡ below g n
-below-same f g zero each = refl
-below-same f g (suc n) each =
-    let one : n + 1 ≡ suc n = omega arith in
-    let first : below f (suc n) ≡ below f n + f n = ap (below f) (sym one) ∙ below-more f n in
-    let second : below g (suc n) ≡ below g n + g n = ap (below g) (sym one) ∙ below-more g n in
-    let rest : below f n ≡ below g n = below-same f g n each in
-    let here : f n ≡ g n = each n in
-    omega (arith, first, second, rest, here)
+use Rattle.session_counts.proofs.Weights.{below-same, below-sum, one-weight, weight, weight-off, weight-on}
 
 -- how often block k is used
 abbrev uses : List Place → ℕ → ℕ

@@ -16,10 +16,12 @@ use Rattle.heap_picture.specs.declared.reader.Report.{Report}
 use Rattle.heap_picture.specs.Bars.{map_place}
 use Rattle.heap_picture.specs.Forms.{LARGE}
 use Rattle.heap_picture.specs.Reading.{Begun, has_young, have_sizes, blocks_in, may_collect, may_have_kinds, no_wants, nothing, strange_in, text_read}
-use Rattle.heap_picture.specs.Texts.{AllNamesInOrder, CountsCollections, HaveSizes, IsPlaceIn, IsRunText, Reports, births_in, count_lines, large_blocks, numbers_in, place_text, plan_line, replies_from, report_text, whole, small_blocks}
+use Rattle.session_counts.specs.Sizes.{AreSizes, may_fill}
+use Rattle.session_counts.proofs.SizeTests.{bounded, found as sizes_found}
+use Rattle.heap_picture.specs.Texts.{AllNamesInOrder, CountsCollections, HasOthers, IsPlaceIn, IsRunText, Reports, births_in, count_lines, large_blocks, numbers_in, place_text, plan_line, replies_from, report_text, whole, small_blocks}
 use Rattle.heap_picture.proofs.LineTexts.{kinds_line_lacks, one_line, place_line_lacks, plan_line_lacks, reply_line_lacks, two_line}
 use Rattle.heap_picture.proofs.Lines.{IsLine, Leads, read_lines, text_of_lines}
-use Rattle.heap_picture.proofs.Mapped.{BornBy, blocks_of, map_goes, map_leads, place_fits, sizes_again, words_in, added_to}
+use Rattle.heap_picture.proofs.Mapped.{BornBy, Leaves, blocks_of, filled-as, leaves-by, map_goes, map_leads, place_fits, sizes_again, words_in, added_to}
 use Rattle.heap_picture.proofs.Mutators.{IsShort, all_refusals, all_replies, first_line, mutators_go, news, planned, refusals, replies_lead, reply_lines}
 use Rattle.heap_picture.proofs.PlacesRead.{place_line_is}
 use Rattle.heap_picture.proofs.Reported.{Sized, mapping, report_goes, report_leads}
@@ -62,7 +64,6 @@ sizes_fit r s = All-from_recursion (λ n. n ≤ LARGE) (numbers_in r)
 record Held (r : Report) : Type 0 where
   objects : r.live ≤ r.held
   words : r.live_words ≤ r.held_words
-  others : HaveSizes (r.held - r.live) (r.held_words - r.live_words)
 
 held_by : (r : Report) → Sized r → Held r
 held_by r s =
@@ -71,11 +72,9 @@ held_by r s =
     let whole = and_parts (nat_le r.live r.held && nat_le r.live_words r.held_words && have_sizes k w) (nat_le r.held_words (4096 * r.blocks)) s.held_is in
     let all = and_parts (nat_le r.live r.held && nat_le r.live_words r.held_words) (have_sizes k w) whole.0 in
     let front = and_parts (nat_le r.live r.held) (nat_le r.live_words r.held_words) all.0 in
-    let sizes = and_parts (nat_le (3 * k) w) (nat_le w (61027 * k)) all.1 in
     record {
       objects = leb-true r.live r.held front.0;
       words = leb-true r.live_words r.held_words front.1;
-      others = record { least = leb-true (3 * k) w sizes.0; most = leb-true w (61027 * k) sizes.1 };
     }
 
 -- the kinds of the blocks
@@ -83,12 +82,14 @@ record Filled (r : Report) : Type 0 where
   all : blocks_in r.kinds ≡ r.blocks
   of_plan : strange_in r.plan r.kinds ≡ 0
   room : r.held_words ≤ 4096 * (r.blocks - r.kinds.free)
+  fill : may_fill r.held r.held_words r.kinds.large (r.blocks - r.kinds.free - r.kinds.large) ≡ true
 
 filled_by : (r : Report) → may_have_kinds r r.kinds ≡ true → Filled r
 filled_by r e =
-    let whole = and_parts (nat_eq (blocks_in r.kinds) r.blocks && nat_eq (strange_in r.plan r.kinds) 0) (nat_le r.held_words (4096 * (r.blocks - r.kinds.free))) e in
+    let fill = and_parts (nat_eq (blocks_in r.kinds) r.blocks && nat_eq (strange_in r.plan r.kinds) 0 && nat_le r.held_words (4096 * (r.blocks - r.kinds.free))) (may_fill r.held r.held_words r.kinds.large (r.blocks - r.kinds.free - r.kinds.large)) e in
+    let whole = and_parts (nat_eq (blocks_in r.kinds) r.blocks && nat_eq (strange_in r.plan r.kinds) 0) (nat_le r.held_words (4096 * (r.blocks - r.kinds.free))) fill.0 in
     let both = and_parts (nat_eq (blocks_in r.kinds) r.blocks) (nat_eq (strange_in r.plan r.kinds) 0) whole.0 in
-    record { all = eqb-true (blocks_in r.kinds) r.blocks both.0; of_plan = eqb-true (strange_in r.plan r.kinds) 0 both.1; room = leb-true r.held_words (4096 * (r.blocks - r.kinds.free)) whole.1 }
+    record { all = eqb-true (blocks_in r.kinds) r.blocks both.0; of_plan = eqb-true (strange_in r.plan r.kinds) 0 both.1; room = leb-true r.held_words (4096 * (r.blocks - r.kinds.free)) whole.1; fill = fill.1 }
 
 -- the collections, as they are counted and as they are tested
 some_young : (plan : PlanName) (n c : ℕ) → (nat_eq n 0 || has_young plan && nat_lt 0 c) ≡ true → 0 < n → (has_young plan ≡ true) × (0 < c)
@@ -119,8 +120,8 @@ made_again r counts =
     ])
 
 reports_are : (r : Report) (all : List (List Reply)) (ps : List Place) → Sized r → r.mutators ≡ length all → 0 < r.mutators → r.mutators ≤ 16 → r.commands ≡ all_replies all
-    → r.full ≡ all_refusals all → r.live ≡ length ps → r.live_words ≡ words_in ps → blocks_of ps ≤ r.kinds.large → small_blocks r.blocks ps ≤ r.blocks - r.kinds.free - r.kinds.large → Reports r all ps
-reports_are r all ps sizes mutators some few commands full live words large small =
+    → r.full ≡ all_refusals all → r.live ≡ length ps → r.live_words ≡ words_in ps → blocks_of ps ≤ r.kinds.large → small_blocks r.blocks ps ≤ r.blocks - r.kinds.free - r.kinds.large → HasOthers r ps → Reports r all ps
+reports_are r all ps sizes mutators some few commands full live words large small others =
     let held = held_by r sizes in
     let filled = filled_by r sizes.kinds_are in
     record {
@@ -133,7 +134,7 @@ reports_are r all ps sizes mutators some few commands full live words large smal
       words = words ∙ sym (words_are ps);
       held = held.objects;
       held_words = held.words;
-      others = held.others;
+      others = others;
       room = filled.room;
       collections = made_by r sizes.collections;
       large = let same : large_blocks ps ≡ blocks_of ps = large_are ps in omega (arith, same, large);
@@ -144,6 +145,27 @@ reports_are r all ps sizes mutators some few commands full live words large smal
       kinds = filled.all;
       fit = sizes_fit r sizes;
     }
+
+-- the sizes of the held objects that are not live, by blocks counted place by place
+others_as : (r : Report) (ps : List Place) (large small : ℕ) (sizes : List ℕ) → large_blocks ps ≡ large → small_blocks r.blocks ps ≡ small
+    → AreSizes (r.held - r.live) (r.held_words - r.live_words) (r.kinds.large - large) (r.blocks - r.kinds.free - r.kinds.large - small) sizes
+    → AreSizes (r.held - r.live) (r.held_words - r.live_words) (r.kinds.large - large_blocks ps) (r.blocks - r.kinds.free - r.kinds.large - small_blocks r.blocks ps) sizes
+others_as r ps large small sizes one two are =
+    subst (λ n. AreSizes (r.held - r.live) (r.held_words - r.live_words) (r.kinds.large - n) (r.blocks - r.kinds.free - r.kinds.large - small_blocks r.blocks ps) sizes) (sym one)
+    (subst (λ n. AreSizes (r.held - r.live) (r.held_words - r.live_words) (r.kinds.large - large) (r.blocks - r.kinds.free - r.kinds.large - n) sizes) (sym two) are)
+
+others_found : (r : Report) (ps : List Place) → small_blocks r.blocks ps ≡ added_to [] ps
+    → may_fill (r.held - r.live) (r.held_words - r.live_words) (r.kinds.large - blocks_of ps) (r.blocks - r.kinds.free - r.kinds.large - added_to [] ps) ≡ true → HasOthers r ps
+others_found r ps small-is is =
+    let some = sizes_found (r.held - r.live) (r.held_words - r.live_words) (r.kinds.large - blocks_of ps) (r.blocks - r.kinds.free - r.kinds.large - added_to [] ps) is in
+    record { sizes = some.0; are = others_as r ps (blocks_of ps) (added_to [] ps) some.0 (large_are ps) small-is some.1 }
+
+-- the converse
+others_again : (r : Report) (ps : List Place) (o : HasOthers r ps) → small_blocks r.blocks ps ≡ added_to [] ps
+    → AreSizes (r.held - r.live) (r.held_words - r.live_words) (r.kinds.large - blocks_of ps) (r.blocks - r.kinds.free - r.kinds.large - added_to [] ps) o.sizes
+others_again r ps o small-is =
+    subst (λ n. AreSizes (r.held - r.live) (r.held_words - r.live_words) (r.kinds.large - n) (r.blocks - r.kinds.free - r.kinds.large - added_to [] ps) o.sizes) (large_are ps)
+    (subst (λ n. AreSizes (r.held - r.live) (r.held_words - r.live_words) (r.kinds.large - large_blocks ps) (r.blocks - r.kinds.free - r.kinds.large - n) o.sizes) small-is o.are)
 
 -- a text that is read, with what was read
 record Found (text : List ℕ) (end : Begun) : Type 0 where
@@ -158,7 +180,11 @@ found text end e =
     let early = replies_lead read.lines 0 0 0 0 0 [] no_wants end refl read.leads in
     let rep = report_leads early.rest early.plan early.mutators early.commands early.full early.births end early.leads in
     let r : Report = rep.report in
-    let mapped = map_leads rep.rest early.births r [] r.live_words r.kinds.large (r.blocks - r.kinds.free - r.kinds.large) end rep.leads in
+    let held = held_by r rep.sizes in
+    let words : r.live_words ≤ r.held_words = held.words in
+    let leaves : Leaves r [] r.live_words r.kinds.large (r.blocks - r.kinds.free - r.kinds.large) =
+    filled-as r.held r.held_words r.kinds.large (r.blocks - r.kinds.free - r.kinds.large) (r.held - 0) (r.held_words - r.live_words + r.live_words) r.kinds.large (r.blocks - r.kinds.free - r.kinds.large) (omega arith) (omega (arith, words)) refl refl (filled_by r rep.sizes.kinds_are).fill in
+    let mapped = map_leads rep.rest early.births r [] r.live_words r.kinds.large (r.blocks - r.kinds.free - r.kinds.large) end leaves rep.leads in
     let small-is : small_blocks r.blocks mapped.more ≡ added_to [] mapped.more = small_are r.mutators r.blocks mapped.more mapped.each in
     let all : List (List Reply) = early.others in
     let ps : List Place = mapped.more in
@@ -182,7 +208,8 @@ found text end e =
         reports = reports_are r all ps rep.sizes (rep.mutators_are ∙ early.mutators_are ∙ omega arith) some few
             (rep.commands_are ∙ early.commands_are ∙ ap (λ rs. 0 + length rs + all_replies all) (early.alone refl) ∙ omega arith)
             (rep.full_is ∙ early.full_are ∙ ap (λ rs. 0 + refusals rs + all_refusals all) (early.alone refl) ∙ omega arith)
-            (let sum = mapped.live in omega (arith, sum)) mapped.words mapped.large (let low : added_to [] mapped.more ≤ r.blocks - r.kinds.free - r.kinds.large = mapped.small in omega (arith, small-is, low));
+            (let sum = mapped.live in omega (arith, sum)) mapped.words mapped.large (let low : added_to [] mapped.more ≤ r.blocks - r.kinds.free - r.kinds.large = mapped.small in omega (arith, small-is, low))
+            (others_found r ps small-is mapped.others);
         each = All-from_recursion (IsPlaceIn r.mutators r.blocks) ps mapped.each;
         born = subst (λ bs. All (BornBy bs) ps) births-are (All-from_recursion (BornBy early.births) ps mapped.born);
         apart = clear_pairs [] ps mapped.clear;
@@ -261,15 +288,23 @@ sized_of : (r : Report) (all : List (List Reply)) (ps : List Place) → Reports 
 sized_of r all ps is each =
     let f = recursion_from_All (λ n. n ≤ LARGE) (numbers_in r) is.fit in
     let few = is.few in
-    let others = is.others in
     let k : ℕ = r.held - r.live in
     let w : ℕ = r.held_words - r.live_words in
+    let others = bounded k w (r.kinds.large - large_blocks ps) (r.blocks - r.kinds.free - r.kinds.large - small_blocks r.blocks ps) is.others.sizes is.others.are in
+    let small-is : small_blocks r.blocks ps ≡ added_to [] ps = small_are r.mutators r.blocks ps each in
+    let words : r.live_words ≤ r.held_words = is.held_words in
+    let large-is : large_blocks ps ≡ blocks_of ps = large_are ps in
+    let large = is.large in
+    let low = is.small in
+    let leaves : Leaves r [] r.live_words r.kinds.large (r.blocks - r.kinds.free - r.kinds.large) =
+    leaves-by r ps [] r.live_words r.kinds.large (r.blocks - r.kinds.free - r.kinds.large) is.others.sizes (others_again r ps is.others small-is) each (omega arith ∙ sym is.live) is.held (is.words ∙ words_are ps) (omega (arith, large, large-is)) (omega (arith, low, small-is)) in
     record {
       live_sizes = sizes_again r.mutators r.blocks r.live r.live_words ps each is.live (is.words ∙ words_are ps);
-      held_is = and_from _ _ (and_from _ _ (and_from _ _ (le-leb r.live r.held is.held) (le-leb r.live_words r.held_words is.held_words)) (and_from _ _ (le-leb (3 * k) w others.least) (le-leb w (61027 * k) others.most)))
+      held_is = and_from _ _ (and_from _ _ (and_from _ _ (le-leb r.live r.held is.held) (le-leb r.live_words r.held_words is.held_words)) (and_from _ _ (le-leb (3 * k) w others.0) (le-leb w (61027 * k) others.1)))
           (le-leb r.held_words (4096 * r.blocks) (let room = is.room in omega (arith, room)));
       collections = made_again r is.collections;
-      kinds_are = and_from _ _ (and_from _ _ (eq-eqb (blocks_in r.kinds) r.blocks is.kinds) (eq-eqb (strange_in r.plan r.kinds) 0 is.of_plan)) (le-leb r.held_words (4096 * (r.blocks - r.kinds.free)) is.room);
+      kinds_are = and_from _ _ (and_from _ _ (and_from _ _ (eq-eqb (blocks_in r.kinds) r.blocks is.kinds) (eq-eqb (strange_in r.plan r.kinds) 0 is.of_plan)) (le-leb r.held_words (4096 * (r.blocks - r.kinds.free)) is.room))
+          (filled-as (r.held - 0) (r.held_words - r.live_words + r.live_words) r.kinds.large (r.blocks - r.kinds.free - r.kinds.large) r.held r.held_words r.kinds.large (r.blocks - r.kinds.free - r.kinds.large) (omega arith) (omega (arith, words)) refl refl leaves);
       least = is.least;
       most = is.most;
       mutators = omega (arith, few);
@@ -313,7 +348,7 @@ printed_is_read r ps text t =
     let map-goes : Leads (map place_text ps) (mapping bs r) end =
     subst (λ e. Leads (map place_text ps) (mapping bs r) e) (ap (λ n. record end { large = r.kinds.large - n; small = r.blocks - r.kinds.free - r.kinds.large - added_to [] ps }) (sym (large_are ps))
     ∙ ap (λ n. record end { small = r.blocks - r.kinds.free - r.kinds.large - n }) (sym small-is))
-    (map_goes ps bs r [] r.live_words r.kinds.large (r.blocks - r.kinds.free - r.kinds.large) few reports.most each (recursion_from_All (BornBy bs) ps t.born) (clear_again ps t.apart) (from_pairs ps t.rise) (omega arith ∙ sym reports.live) (reports.words ∙ words_are ps) (let large = reports.large in let same : large_blocks ps ≡ blocks_of ps = large_are ps in omega (arith, large, same)) (let small = reports.small in omega (arith, small, small-is))) in
+    (map_goes ps bs r [] r.live_words r.kinds.large (r.blocks - r.kinds.free - r.kinds.large) reports.others.sizes reports.held (others_again r ps reports.others small-is) few reports.most each (recursion_from_All (BornBy bs) ps t.born) (clear_again ps t.apart) (from_pairs ps t.rise) (omega arith ∙ sym reports.live) (reports.words ∙ words_are ps) (let large = reports.large in let same : large_blocks ps ≡ blocks_of ps = large_are ps in omega (arith, large, same)) (let small = reports.small in omega (arith, small, small-is))) in
     let goes : Leads rest (planned r.plan r.mutators r.commands r.full bs) end = report_goes r bs (map place_text ps) end sizes map-goes in
     let leads : Leads (run_lines r all ps) nothing end =
     mutators_go all r.plan 0 0 0 0 0 [] no_wants bs rest end prints (recursion_from_All IsShort all t.short) t.named (births_are all) refl refl (λ m. subst (λ (n : ℕ). n ≤ slice_index_or bs m 0) (sym (none-wanted m)) (omega arith)) (omega (arith, k-is, some)) (omega (arith, k-is, few)) (omega arith) (omega (arith, c-is, low))

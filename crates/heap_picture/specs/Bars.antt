@@ -31,6 +31,10 @@ cell_x block = 256 * (block % 16)
 abbrev pub cell_y : ℕ → ℕ
 cell_y block = 16 * (block / 16)
 
+-- a block's cell
+abbrev pub cell_rect : ℕ → Rect
+cell_rect block = rect (cell_x block) (cell_y block) 256 16
+
 -- Words `from` to `end` of a block, in up to three rectangles: the rest of a row, whole rows, and
 -- the beginning of a row.
 abbrev pub part_rects : ℕ → ℕ → ℕ → List Rect

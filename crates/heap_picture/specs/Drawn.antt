@@ -15,7 +15,7 @@ use Rattle.heap_picture.specs.declared.forms.KindCounts.{KindCounts}
 use Rattle.heap_picture.specs.declared.forms.Place.{Place}
 use Rattle.heap_picture.specs.declared.reader.Report.{Report}
 use Rattle.heap_picture.specs.Reading.{Begun}
-use Rattle.heap_picture.specs.Bars.{bar_rects, cell_x, cell_y}
+use Rattle.heap_picture.specs.Bars.{bar_rects, cell_rect}
 
 -- what a part of a text is
 abbrev pub part_text : Part → List ℕ
@@ -89,8 +89,8 @@ bar_text names blocks p =
 
 -- the cell of a block
 abbrev pub cell_text : ℕ → List ℕ
-cell_text block = codes "<path class=\"f\" d=\"M" ++ (decimal (cell_x block) ++ (codes " "
-    ++ (decimal (cell_y block) ++ codes "h256v16h-256z\"/>\n")))
+cell_text block = codes "<path class=\"f\" d=\"" ++ (full_rect_text (cell_rect block)
+    ++ codes "\"/>\n")
 
 -- a line of two words, each with a number, at this height
 abbrev pub pair_text : List ℕ → List ℕ → ℕ → List ℕ → ℕ → List ℕ
@@ -132,8 +132,16 @@ head_text blocks = codes "<svg xmlns=\"http://www.w3.org/2000/svg\" width=\"1040
 abbrev pub cells_text : ℕ → List ℕ
 cells_text blocks = flat_map (λ cell. cell) (map cell_text (range_with_len 0 blocks))
 
--- the picture of a run: its counts, the legend, the cells, and a bar for each line of the map
+-- what stands before and after the bars, which is of the report alone: its counts, the legend and
+-- the cells
+abbrev pub before_bars : Report → List ℕ
+before_bars r = head_text r.blocks ++ plan_text r ++ counts_text r ++ kinds_text r.kinds
+    ++ LEGEND.now ++ cells_text r.blocks
+
+abbrev pub after_bars : List ℕ
+after_bars = codes "</g></svg>\n"
+
+-- the picture of a run: a bar for each line of the map
 abbrev pub picture_text : Option ℕ → Begun → List ℕ
-picture_text names s = head_text s.report.blocks ++ plan_text s.report ++ counts_text s.report
-    ++ kinds_text s.report.kinds ++ LEGEND.now ++ cells_text s.report.blocks
-    ++ flat_map (bar_text names (block_colour s.report.kinds)) s.places ++ codes "</g></svg>\n"
+picture_text names s = before_bars s.report
+    ++ flat_map (bar_text names (block_colour s.report.kinds)) s.places ++ after_bars

@@ -4,6 +4,7 @@ use Rattle.std.specs.Prelude.{◌≡◌, ℕ, ◌+◌, ◌*◌, Bool, false, ◌
 use Rattle.std.specs.List.{list_any}
 use Rattle.heap_layout.specs.declared.layout.TheConstants.{BLOCK_WORDS}
 use Rattle.object_model.specs.Objects.{blocks_for}
+use Rattle.session_counts.specs.Sizes.{shared_blocks}
 use Rattle.heap_picture.specs.declared.forms.Place.{Place}
 
 -- how many words an object of this size has for itself: a large one has all those of its blocks
@@ -24,10 +25,6 @@ has_word i p = nat_le (first_word p) i && nat_lt i (end_word p)
 -- one of the places has word i for itself
 abbrev pub is_taken : List Place → ℕ → Bool
 is_taken places i = list_any (has_word i) places
-
--- how many blocks a small or medium object of this size has, which it shares with others
-abbrev pub shared_blocks : ℕ → ℕ
-shared_blocks size = if nat_le size MAX_MEDIUM_WORDS then 1 else 0
 
 -- block k has the object of the place, and may have others
 abbrev pub has_block : ℕ → Place → Bool

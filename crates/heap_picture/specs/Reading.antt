@@ -5,8 +5,9 @@ use Rattle.std.specs.List.{list_all, range_with_len}
 use Rattle.std.specs.Str.{bytes_eq}
 use Rattle.heap_layout.specs.declared.layout.TheConstants.{BLOCK_WORDS, MAX_BLOCKS, MIN_BLOCKS}
 use Rattle.ideal_heap.specs.declared.command.TheConstants.{MAX_MUTATORS}
-use Rattle.object_model.specs.Objects.{blocks_for}
 use Rattle.object_model.specs.declared.shape.TheConstants.{HEADER_WORDS, MAX_MEDIUM_WORDS}
+use Rattle.session_counts.specs.Sizes.{may_fill, own_blocks, shared_blocks}
+use Rattle.session_counts.specs.declared.sizes.TheConstants.{MAX_OBJECT_WORDS}
 use Rattle.trace_text.specs.Grammar.{parts_at}
 use Rattle.trace_text.specs.declared.limits.TheConstants.{MAX_COMMANDS}
 use Rattle.sessions.specs.Plans.{rules_of}
@@ -22,9 +23,9 @@ use Rattle.heap_picture.specs.declared.reader.Stage.{Stage}
 use Rattle.heap_picture.specs.declared.reader.Stage.TheVariants as stages
 use Rattle.heap_picture.specs.declared.reader.TextFault.{TextFault}
 use Rattle.heap_picture.specs.declared.reader.TextFault.TheVariants as fault
-use Rattle.heap_picture.specs.declared.reader.TheConstants.{MAX_OBJECT_WORDS, NUMBERS}
+use Rattle.heap_picture.specs.declared.reader.TheConstants.{NUMBERS}
 use Rattle.heap_picture.specs.Forms.{LARGE, Numbered, kinds_in, name_in, one_number, place_in, ref_in, reply_in, two_numbers}
-use Rattle.heap_picture.specs.Marks.{first_word, is_taken, is_used, room_words, shared_blocks}
+use Rattle.heap_picture.specs.Marks.{first_word, is_taken, is_used, room_words}
 
 -- a number and the text after it, as the code has them
 abbrev pub numbered : ℕ × Bor (List ℕ) → Numbered
@@ -299,10 +300,12 @@ strange_in plans.GenCopy k = k.bump + k.immix + k.cells
 strange_in plans.Immix k = k.bump + k.young + k.mature + k.cells + k.kept
 strange_in plans.StickyImmix k = k.bump + k.young + k.mature + k.cells + k.kept
 
--- the blocks are of the plan's kinds, and those that are not free have room for the held objects
+-- The blocks are of the plan's kinds, and those that are not free have room for the held objects,
+-- which may fill them.
 abbrev pub may_have_kinds : Report → KindCounts → Bool
 may_have_kinds r x = nat_eq (blocks_in x) r.blocks && nat_eq (strange_in r.plan x) 0
     && nat_le r.held_words (BLOCK_WORDS * (r.blocks - x.free))
+    && may_fill r.held r.held_words x.large (r.blocks - x.free - x.large)
 
 -- the kinds of all blocks
 abbrev pub as_kinds : Begun → KindCounts → Option Begun
@@ -353,13 +356,15 @@ abbrev pub leaves_room : ℕ → ℕ → Place → Bool
 leaves_room objects words p = nat_lt 0 objects && nat_le p.size words
     && have_sizes (objects - 1) (words - p.size)
 
--- the blocks that an object of this size has for itself
-abbrev pub own_blocks : ℕ → ℕ
-own_blocks size = if nat_le size MAX_MEDIUM_WORDS then 0 else blocks_for size
-
 -- how many more blocks of small and medium objects there are with the place
 abbrev pub new_blocks : List Place → Place → ℕ
 new_blocks places p = if is_used places p.block then 0 else shared_blocks p.size
+
+-- the held objects that are left after the place may fill the blocks that are left
+abbrev pub leaves_others : Begun → Place → Bool
+leaves_others s p = may_fill (s.report.held - (length s.places + 1))
+    (s.report.held_words - s.report.live_words + (s.left - p.size))
+    (s.large - own_blocks p.size) (s.small - new_blocks s.places p)
 
 -- the place may be the next one of the map
 abbrev pub may_be_next : Begun → Place → Bool
@@ -367,7 +372,7 @@ may_be_next s p = is_name s.report.mutators s.births p && lies_in s.report.block
     && nat_le HEADER_WORDS p.size && is_next s.places p
     && leaves_room (s.report.live - length s.places) s.left p
     && nat_le (own_blocks p.size) s.large && nat_le (new_blocks s.places p) s.small
-    && is_free s.places p
+    && leaves_others s p && is_free s.places p
 
 -- one more line of the map
 abbrev pub as_place : Begun → Place → Option Begun

@@ -25,8 +25,9 @@ use Rattle.heap_picture.specs.declared.forms.KindCounts.{KindCounts}
 use Rattle.heap_picture.specs.declared.forms.Place.{Place}
 use Rattle.heap_picture.specs.declared.reader.Report.{Report}
 use Rattle.heap_picture.specs.declared.reader.Stage.TheVariants as stages
-use Rattle.heap_picture.specs.Reading.{Begun, blocks_in, has_young, no_wants, own_blocks, strange_in}
-use Rattle.heap_picture.specs.declared.reader.TheConstants.{MAX_OBJECT_WORDS}
+use Rattle.heap_picture.specs.Reading.{Begun, blocks_in, has_young, no_wants, strange_in}
+use Rattle.session_counts.specs.Sizes.{AreSizes, own_blocks}
+use Rattle.session_counts.specs.declared.sizes.TheConstants.{MAX_OBJECT_WORDS}
 
 -- two words, each with a number
 abbrev pub two_text : List ℕ → ℕ → List ℕ → ℕ → List ℕ
@@ -105,11 +106,6 @@ AllNamesInOrder births m (rs ∷ more) =
 abbrev pub births_in : List (List Reply) → List ℕ
 births_in replies = 0 ∷ map (count_by is_new_reply) replies
 
--- so many objects may have so many words
-pub record HaveSizes (objects words : ℕ) : Type 0 where
-  pub least : HEADER_WORDS * objects ≤ words
-  pub most : words ≤ MAX_OBJECT_WORDS * objects
-
 -- A place of the map: the name is that of an object of one of so many mutators, and the object,
 -- which has a header at least, lies in the blocks of the heap.
 pub record IsPlaceIn (mutators blocks : ℕ) (p : Place) : Type 0 where
@@ -128,6 +124,13 @@ large_blocks places = sum_by (λ p. own_blocks p.size) places
 -- how many of so many blocks the small and medium objects of the places have
 abbrev pub small_blocks : ℕ → List Place → ℕ
 small_blocks blocks places = count_by (is_used places) (range_with_len 0 blocks)
+
+-- Sizes of the held objects that are not live. They fill the blocks that the places leave.
+pub record HasOthers (r : Report) (places : List Place) : Type 0 where
+  pub sizes : List ℕ
+  pub are : AreSizes (r.held - r.live) (r.held_words - r.live_words)
+      (r.kinds.large - large_blocks places)
+      (r.blocks - r.kinds.free - r.kinds.large - small_blocks r.blocks places) sizes
 
 -- the numbers of a report that its heap does not bound
 abbrev pub numbers_in : Report → List ℕ
@@ -158,7 +161,7 @@ pub record Reports (r : Report) (replies : List (List Reply)) (places : List Pla
   -- the held objects are the live ones and others
   pub held : r.live ≤ r.held
   pub held_words : r.live_words ≤ r.held_words
-  pub others : HaveSizes (r.held - r.live) (r.held_words - r.live_words)
+  pub others : HasOthers r places
   pub least : MIN_BLOCKS ≤ r.blocks
   pub most : r.blocks ≤ MAX_BLOCKS
   -- the blocks that are not free have room for the held objects

@@ -19,8 +19,8 @@ pub(crate) struct Rect {
     pub(crate) height: u64,
 }
 
-// Appends a rectangle as a part of a path.
-fn draw_full(rect: Rect, to: &mut Vec<u8>) -> Result<(), AllocError>
+/// Appends a rectangle as a part of a path.
+pub(crate) fn draw_full(rect: Rect, to: &mut Vec<u8>) -> Result<(), AllocError>
     ensures { OnOk result (to.new.items ≡ to.old.items ++ full_rect_text rect) }
 {
     draw_parts(

@@ -8,14 +8,15 @@ ghost use Rattle.command_line.specs.declared.order.PlanName.{PlanName as AnyPlan
 ghost use Rattle.driver.specs.MapPlaces.{HasWord, IsMapOf, LiesInBlocks};
 ghost use Rattle.driver.specs.Texts.{IsSessionText, map_part, place_line, replies_part, report_part};
 ghost use Rattle.ideal_heap.specs.Ideal.{IdealHeap};
+ghost use Rattle.object_model.specs.Objects.{blocks_for};
 ghost use Rattle.sessions.specs.Plans.{rules_of};
 ghost use Rattle.sessions.specs.Sessions.{IsSound, IsWhole, Moment, Setting};
 ghost use Rattle.std.specs.List.{All, AllPairs, flat_map};
-ghost use Rattle.heap_picture.specs.Bars.{AreApart, BarCovers, Covers, cell_x, cell_y, map_place, rect, word_shown};
+ghost use Rattle.heap_picture.specs.Bars.{AreApart, BarCovers, Covers, cell_rect, map_place, word_shown};
 ghost use Rattle.heap_picture.specs.Forms.{LARGE, is_no_digit, one_number, place_in, reply_in, two_numbers};
 ghost use Rattle.heap_picture.specs.Reading.{Begun, lies_in, text_read};
 ghost use Rattle.heap_picture.specs.Texts.{Fits, IsPlaceIn, IsReplyLine, IsRunText, births_in, place_text, replies_from, report_text, two_text, whole};
-ghost use Rattle.heap_picture.specs.Drawn.{bar_text, block_colour, picture_text};
+ghost use Rattle.heap_picture.specs.Drawn.{after_bars, bar_text, before_bars, block_colour, picture_text};
 ghost use Rattle.heap_picture.specs.Sessions.{HasNumbers, places_of, replies_in, report_of};
 ghost use Rattle.heap_picture.specs.declared.colours.Colour.{Colour as AnyColour};
 ghost use Rattle.heap_picture.specs.declared.forms.Pair.{Pair as AnyPair};
@@ -26,18 +27,23 @@ ghost use Rattle.trace_text.specs.Text.{ended};
 use driver::maps_show_the_ideal_heap;
 use heap_layout::MAX_BLOCKS;
 use ideal_heap::MAX_MUTATORS;
+use session_counts::MAX_OBJECT_WORDS;
 use trace_text::MAX_COMMANDS;
 
 /// The bar of an object that lies in the heap's blocks has the squares of its words, and no others.
+/// So it lies in the cells of the object's blocks.
 pub fn bars_have_their_words()
-    ensures { (blocks : ℕ) (p : AnyPlace) (x y : ℕ) → LiesInBlocks blocks (map_place p)
-        → p.size ≤ 61027
+    ensures words { (blocks : ℕ) (p : AnyPlace) (x y : ℕ) → LiesInBlocks blocks (map_place p)
+        → p.size ≤ MAX_OBJECT_WORDS
         → BarCovers p x y ↔ ((x < 4096) × HasWord (map_place p) (word_shown x y)) }
+    ensures cells { (blocks : ℕ) (p : AnyPlace) (x y : ℕ) → LiesInBlocks blocks (map_place p)
+        → p.size ≤ MAX_OBJECT_WORDS → BarCovers p x y → (b : ℕ) × (p.block ≤ b)
+        × (b < p.block + blocks_for p.size) × (b < blocks) × Covers (cell_rect b) x y }
 {}
 
 /// The square of a word is in the cell of its block.
 pub fn cells_have_their_words()
-    ensures { (b x y : ℕ) → Covers (rect (cell_x b) (cell_y b) 256 16) x y
+    ensures { (b x y : ℕ) → Covers (cell_rect b) x y
         ↔ ((x < 4096) × (4096 * b ≤ word_shown x y) × (word_shown x y < 4096 * b + 4096)) }
 {}
 
@@ -45,7 +51,8 @@ pub fn cells_have_their_words()
 pub fn places_lie_in_blocks()
     ensures lie { (blocks : ℕ) (p : AnyPlace) → IsTrue (lies_in blocks p)
         → LiesInBlocks blocks (map_place p) }
-    ensures most { (blocks : ℕ) (p : AnyPlace) → IsTrue (lies_in blocks p) → p.size ≤ 61027 }
+    ensures most { (blocks : ℕ) (p : AnyPlace) → IsTrue (lies_in blocks p)
+        → p.size ≤ MAX_OBJECT_WORDS }
 {}
 
 /// No two bars of a lawful map overlap, nor of a text that is read.
@@ -64,13 +71,15 @@ pub fn bars_are_short()
         → length (bar_text names blocks p) ≤ 200 }
 {}
 
-/// Each line of the map has one bar, and each bar is of one line, in their order.
+/// Each line of the map has one bar, and each bar is of one line, in their order. All else in the
+/// picture is of the report alone.
 pub fn lines_have_bars()
     ensures { (names : Option ℕ) (report : AnyReport) (places : List AnyPlace) (text : List ℕ)
-        → (t : IsRunText report places text) → (lines : List ℕ) × (head : List ℕ)
-        × (end : List ℕ) × (text ≡ lines ++ flat_map place_line (map map_place places))
-        × (picture_text names (whole report (births_in t.replies) places)
-        ≡ head ++ flat_map (bar_text names (block_colour report.kinds)) places ++ end) }
+        → (t : IsRunText report places text)
+        → (text ≡ replies_from 1 t.replies ++ report_text report
+        ++ flat_map place_line (map map_place places))
+        × (picture_text names (whole report (births_in t.replies) places) ≡ before_bars report
+        ++ flat_map (bar_text names (block_colour report.kinds)) places ++ after_bars) }
 {}
 
 /// A line of words and numbers is read exactly where it is printed.

@@ -1,7 +1,8 @@
 //! The places of a map, and the words of the heap that they have for themselves.
 
 ghost use Rattle.std.specs.Prelude.{◌≡◌, ◌+◌, ◌^◌, ◌≤◌, ◌<◌, ℕ, ◌&&◌, ◌||◌, true, false, length, nat_le, nat_lt, slice_index_or, OnOk, OnErr};
-ghost use Rattle.heap_picture.specs.Marks.{MarksBlocks, MarksWords, first_word as begins, room_words as has_room, shared_blocks as has_shared};
+ghost use Rattle.heap_picture.specs.Marks.{MarksBlocks, MarksWords, first_word as begins, room_words as has_room};
+ghost use Rattle.session_counts.specs.Sizes.{shared_blocks as has_shared};
 
 use crate::forms::Place;
 use heap_layout::BLOCK_WORDS;

@@ -1,7 +1,8 @@
 //! The reader of a run's text.
 
 ghost use Rattle.std.specs.Prelude.{◌≡◌, ◌≤◌, ◌<◌, ℕ, Some, true, false, length, slice_index_or, IfOk};
-ghost use Rattle.heap_picture.specs.Reading.{ReadsText, Takes, after_line, are_met as have_wanted, as_known, as_mutator, as_plan, as_reply, at_blocks, at_collections, at_held, at_kinds, at_live, at_map, at_replies, begun, births_of as known_births, blocks_in, has_young as plan_has_young, have_sizes as may_have_sizes, is_after as comes_after, is_birth as names_next, is_known as names_known, is_name as names_object, is_next as may_follow, is_whole as are_all, leaves_room as leaves_enough, lies_in as lies_in_heap, may_be_born as may_name, may_be_held as may_hold, may_be_known as may_refer, may_be_next, may_collect as may_make, may_have_kinds as may_have, nothing, own_blocks as has_alone, plan_in_line, strange_in, text_read, wanted_with};
+ghost use Rattle.heap_picture.specs.Reading.{ReadsText, Takes, after_line, are_met as have_wanted, as_known, as_mutator, as_plan, as_reply, at_blocks, at_collections, at_held, at_kinds, at_live, at_map, at_replies, begun, births_of as known_births, blocks_in, has_young as plan_has_young, have_sizes as may_have_sizes, is_after as comes_after, is_birth as names_next, is_known as names_known, is_name as names_object, is_next as may_follow, is_whole as are_all, leaves_others as may_leave, leaves_room as leaves_enough, lies_in as lies_in_heap, may_be_born as may_name, may_be_held as may_hold, may_be_known as may_refer, may_be_next, may_collect as may_make, may_have_kinds as may_have, nothing, plan_in_line, strange_in, text_read, wanted_with};
+ghost use Rattle.session_counts.specs.Sizes.{own_blocks as has_alone};
 
 use crate::forms::{
     KindCounts, Pair, Place, kinds_in, name_in, one_number, place_in, ref_in, reply_in, two_numbers,
@@ -11,13 +12,11 @@ use crate::splitter::first_line;
 use crate::text_files::MAX_TEXT_BYTES;
 use command_line::PlanName;
 use heap_layout::{BLOCK_WORDS, MAX_BLOCKS, MIN_BLOCKS};
-use ideal_heap::{MAX_MUTATORS, MAX_NUMS, MAX_REFS};
+use ideal_heap::MAX_MUTATORS;
 use object_model::{HEADER_WORDS, MAX_MEDIUM_WORDS};
+use session_counts::{MAX_OBJECT_WORDS, may_fill};
 use std::alloc::{AllocError, Global};
 use trace_text::MAX_COMMANDS;
-
-/// The most words of an object.
-pub(crate) const MAX_OBJECT_WORDS: u32 = HEADER_WORDS + MAX_REFS + MAX_NUMS;
 
 // The numbers of mutators, with 0.
 const NUMBERS: usize = MAX_MUTATORS as usize + 1;
@@ -220,7 +219,7 @@ fn may_be_held(report: &Report, counts: &Pair) -> bool
 }
 
 // Whether there may be so many blocks of each kind: all blocks, of the plan's kinds, with room for
-// the held objects in those that are not free.
+// the held objects in those that are not free, which these may fill.
 fn may_have_kinds(report: &Report, kinds: &KindCounts) -> bool
     ensures { result ≡ may_have report.now kinds.now }
 {
@@ -228,6 +227,12 @@ fn may_have_kinds(report: &Report, kinds: &KindCounts) -> bool
     count_blocks(kinds) == u128::from(report.blocks)
         && count_strange(report.plan, kinds) == 0
         && report.held_words <= u64::from(BLOCK_WORDS) * used
+        && may_fill(
+            report.held,
+            u128::from(report.held_words),
+            kinds.large,
+            used.saturating_sub(kinds.large),
+        )
 }
 
 // Whether the object lies in a heap of so many blocks, and within its block unless it is large.
@@ -560,6 +565,22 @@ impl Reader {
         false
     }
 
+    // Whether the held objects that are left after the place may fill the blocks that are left.
+    fn leaves_others(&self, place: &Place) -> bool
+        ensures { result ≡ may_leave (begun self.now) place.now }
+    {
+        let count = self.places.items.len() as u64;
+        let size = u64::from(place.size);
+        let report = &self.report;
+        let others = report.held_words.saturating_sub(report.live_words);
+        may_fill(
+            report.held.saturating_sub(count + 1),
+            u128::from(others) + u128::from(self.left.saturating_sub(size)),
+            self.large.saturating_sub(own_blocks(place.size)),
+            self.small.saturating_sub(self.places.new_blocks(place)),
+        )
+    }
+
     // Whether the place may be the next one of the map.
     fn may_come(&self, place: &Place) -> bool
         ensures { result ≡ may_be_next (begun self.now) place.now }
@@ -572,6 +593,7 @@ impl Reader {
             && leaves_room(self.report.live.saturating_sub(count), self.left, place)
             && own_blocks(place.size) <= self.large
             && self.places.new_blocks(place) <= self.small
+            && self.leaves_others(place)
             && self.places.is_free(place)
     }
 

@@ -8,7 +8,7 @@ ghost use Rattle.heap_picture.specs.Drawn.{bar_class as class_of_bar, bar_head, 
 ghost use Rattle.heap_picture.specs.Reading.{begun};
 ghost use Rattle.sessions.specs.Plans.{plan_word};
 
-use crate::bars::draw_bar;
+use crate::bars::{Rect, draw_bar, draw_full};
 use crate::colours::{Colour, block_colour, class_of, colour_of};
 use crate::forms::{KindCounts, Place};
 use crate::parts::{Part, draw_parts};
@@ -144,16 +144,18 @@ fn draw_cell(block: u64, to: &mut Vec<u8>) -> Result<(), AllocError>
     requires { block < 2 ^ 32 }
     ensures { OnOk result (to.new.items ≡ to.old.items ++ cell_text block) }
 {
-    draw_parts(
-        &[
-            Part::Text(b"<path class=\"f\" d=\"M"),
-            Part::Number(256 * (block % 16)),
-            Part::Text(b" "),
-            Part::Number(16 * (block / 16)),
-            Part::Text(b"h256v16h-256z\"/>\n"),
-        ],
+    to.extend_from_slice(b"<path class=\"f\" d=\"")?;
+    draw_full(
+        Rect {
+            x: 256 * (block % 16),
+            y: 16 * (block / 16),
+            width: 256,
+            height: 16,
+        },
         to,
-    )
+    )?;
+    to.extend_from_slice(b"\"/>\n")?;
+    Ok(())
 }
 
 // Appends the cells of all blocks.

@@ -123,7 +123,7 @@ const GOOD: &str =
     1 word 0 size 4100";
 
 // A line of `GOOD`, what stands in its place, and the first line that is not so then.
-const FAULTS: [(usize, &str, u32); 63] = [
+const FAULTS: [(usize, &str, u32); 67] = [
     (1, "mutator 2", 1),
     (1, "mutator 1 ", 1),
     (2, "new 01.1", 2),
@@ -177,6 +177,23 @@ const FAULTS: [(usize, &str, u32); 63] = [
     (11, "held objects 3 words 65133", 11),
     (11, "held objects 3 words 24577", 11),
     (11, "held objects 3 words 12289", 12),
+    (11, "held objects 3 words 6154", 14),
+    (
+        11,
+        "held objects 2 words 4105;kinds free 2 bump 0 young 0 mature 0 immix 2 cells 0 large 2 ke\
+        pt 0",
+        12,
+    ),
+    (
+        12,
+        "kinds free 1 bump 0 young 0 mature 0 immix 3 cells 0 large 2 kept 0",
+        12,
+    ),
+    (
+        12,
+        "kinds free 2 bump 0 young 0 mature 0 immix 1 cells 0 large 3 kept 0",
+        12,
+    ),
     (
         12,
         "kinds free 3 bump 0 young 0 mature 0 immix 1 cells 0 large 2 kept 0 ",
@@ -353,11 +370,13 @@ fn faults(rt: HostRuntime) -> Result<(), Fail> {
     Ok(())
 }
 
-// The text of a run whose map has so many objects of three words, in blocks of cells.
+// The text of a run whose map has so many objects of three words, in cells of four.
 fn text_of_many(alloc: Global, objects: u32) -> Result<Vec<u8>, AllocError>
     requires { objects ≤ 200000 }
 {
     let words = 3 * objects;
+    let used = (objects + 1023) / 1024;
+    let free = 1024 - used;
     let mut text = Vec::from_slice(alloc, b"mutator 1\n")?;
     for k in 0..objects {
         let line = format!(in alloc; "new 1.{}\n", k + 1)?;
@@ -366,12 +385,12 @@ fn text_of_many(alloc: Global, objects: u32) -> Result<Vec<u8>, AllocError>
     let report = format!(in alloc;
         "plan marksweep\nblocks 1024\nmutators 1\ncommands {objects}\nfull 0\n\
         collections nursery 0 full 0\nlive objects {objects} words {words}\n\
-        held objects {objects} words {words}\nkinds free 0 bump 0 young 0 mature 0 immix 0 \
-        cells 1024 large 0 kept 0\n"
+        held objects {objects} words {words}\nkinds free {free} bump 0 young 0 mature 0 \
+        immix 0 cells {used} large 0 kept 0\n"
     )?;
     text.extend_from_slice(report.as_bytes())?;
     for k in 0..objects {
-        let (birth, block, word) = (k + 1, k / 1365, k % 1365 * 3);
+        let (birth, block, word) = (k + 1, k / 1024, k % 1024 * 4);
         let line = format!(in alloc; "map 1.{birth} block {block} word {word} size 3\n")?;
         text.extend_from_slice(line.as_bytes())?;
     }

@@ -18,7 +18,7 @@ use Rattle.sessions.specs.Fitting.{used_of}
 use Rattle.sessions.specs.Sessions as sessions
 use Rattle.sessions.specs.Sessions.{CollectsFor, FirstTry, InSession, IsEpoch, IsOfPart, MakesCollection, MeetsIf, Moment, OnlyReplies, Places, ServesAll, ServesNeed, Setting, all_done, refused_entry}
 use Rattle.sessions.proofs.StopSteps.{full-counts, nursery-counts}
-use Rattle.heap_picture.proofs.Mutators.{one_if}
+use Rattle.object_model.specs.Times.{one_if}
 
 abbrev pub refused-in : List Entry → ℕ
 refused-in es = count_by (λ (e : Entry). is_full e.reply) es
