@@ -1,12 +1,13 @@
-//! Runs of several traces: fault lines, additions, and the points of a gate.
+//! Runs of several traces: fault lines, additions, births, and the points of a gate.
 
-use crate::test_runs::{check_report, report, report_of, run_options, run_traces};
+use crate::test_runs::{check_report, report, report_of, run_options, run_replies, run_traces};
 use std::alloc::{AllocError, Global};
+use std::fmt::Write;
 use std::process::Abort;
 use std::sync::atomic::{AtomicU64, Ordering};
 use std::test::Fail;
 use std::thread::Threads;
-use work_packets::{Gate, OpenGate, Point};
+use work_packets::{Gate, MeetGate, OpenGate, Point};
 
 // The files are read in their order, and the first fault ends the run. Its line names the file.
 #[test]
@@ -47,27 +48,85 @@ fn four_adding(alloc: Global) -> Result<String, AllocError> {
     format!(in alloc; "{first}|{other}|{other}|{other}")
 }
 
-// Additions go on through stops that `gc` raises: each replies the number before it. At the end one
-// mutator reads the sum.
+// Each addition replies the number before it, and at the end one mutator reads the sum.
+fn check_additions<R: Threads + Sync + Abort>(
+    rt: &R,
+    alloc: Global,
+    options: &str,
+    traces: &str,
+) -> Result<(), AllocError> {
+    let ran = run_options(rt, alloc, options, traces, &OpenGate)?;
+    let want = Vec::from_iter(alloc, 0..4001u64)?;
+    let numbers = numbers_in(alloc, &ran)?;
+    assert!(rt; numbers.as_slice() == want.as_slice(), "{options}");
+    Ok(())
+}
+
+const ALL: [&str; 6] = [
+    "nogc",
+    "marksweep",
+    "semispace",
+    "gencopy",
+    "immix",
+    "stickyimmix",
+];
+
+// Additions go on through stops that `gc` raises, with any number of workers: twenty times with 16.
 #[test]
 fn additions(rt: HostRuntime) -> Result<(), Fail> {
     let alloc = rt.alloc();
     let traces = four_adding(alloc)?;
-    let want = Vec::from_iter(alloc, 0..4001u64)?;
-    for plan in [
-        "nogc",
-        "marksweep",
-        "semispace",
-        "gencopy",
-        "immix",
-        "stickyimmix",
-    ] {
-        for workers in [1u32, 4] {
+    for plan in ALL {
+        for (workers, times) in [(1u32, 1u32), (4, 1), (16, 20)] {
             let options = format!(in alloc; "--plan {plan} --heap 8 --workers {workers}")?;
-            let ran = run_options(&rt, alloc, &options, &traces, &OpenGate)?;
-            let numbers = numbers_in(alloc, &ran)?;
-            assert!(rt; numbers.as_slice() == want.as_slice(), "{options}");
+            for _time in 0..times {
+                check_additions(&rt, alloc, &options, &traces)?;
+            }
         }
+    }
+    Ok(())
+}
+
+// The replies of a mutator that makes so many objects.
+fn births_of(alloc: Global, m: u32, count: u32) -> Result<String, AllocError> {
+    let mut replies = format!(in alloc; "new {m}.1")?;
+    for birth in 1..count {
+        write!(replies, ";new {m}.{}", birth + 1)?;
+    }
+    Ok(replies)
+}
+
+// Four mutators make a hundred objects each, the first held at its first one until the second has
+// one. Each name is given once.
+#[test]
+fn names_are_given_once(rt: HostRuntime) -> Result<(), Fail> {
+    let alloc = rt.alloc();
+    let mut replies = births_of(alloc, 1, 100)?;
+    for m in 2..5 {
+        write!(replies, "|{}", births_of(alloc, m, 100)?)?;
+    }
+    let trace = "100*new r0 0 1";
+    let traces = format!(in alloc; "{trace}|{trace}|{trace}|{trace}")?;
+    let gate = MeetGate::new(1, 2, Point::Publish);
+    let ran = run_traces(&rt, alloc, "immix", 8, &traces, &gate)?;
+    assert!(rt; ran == report_of(alloc, &replies)?);
+    Ok(())
+}
+
+// Each of two mutators in turn is held before its first command until the other comes to its own.
+#[test]
+fn mutators_run_at_once(rt: HostRuntime) -> Result<(), Fail> {
+    let alloc = rt.alloc();
+    let want = Vec::from_iter(alloc, 0..4001u64)?;
+    for (first, second) in [(1u32, 2u32), (2, 1)] {
+        let gate = MeetGate::new(first, second, Point::Poll);
+        let options = "--plan semispace --heap 8 --workers 4";
+        let ran = run_options(&rt, alloc, options, &four_adding(alloc)?, &gate)?;
+        let numbers = numbers_in(alloc, &ran)?;
+        assert!(rt;
+            numbers.as_slice() == want.as_slice() && !gate.missed(),
+            "{first}"
+        );
     }
     Ok(())
 }
@@ -115,20 +174,44 @@ fn runs_allocate_and_collect(rt: HostRuntime) -> Result<(), Fail> {
     Ok(())
 }
 
+// Sixteen traces of these commands, with bars between them.
+fn sixteen_traces(alloc: Global, trace: &str) -> Result<String, AllocError> {
+    let mut traces = String::from_str(alloc, trace)?;
+    for _ in 1..16 {
+        traces.push_str("|")?;
+        traces.push_str(trace)?;
+    }
+    Ok(traces)
+}
+
 // Sixteen mutators: each allocates, shares and meets. Each replies `ok` to `share`, `gc` and both
 // `meet`s.
 #[test]
 fn sixteen_mutators(rt: HostRuntime) -> Result<(), Fail> {
     let alloc = rt.alloc();
     let trace = "new r0 0 1;share g3 r0;meet;load r0 g3;pin r0;gc;meet";
-    let mut traces = String::from_str(alloc, trace)?;
-    for _ in 1..16 {
-        traces.push_str("|")?;
-        traces.push_str(trace)?;
-    }
+    let traces = sixteen_traces(alloc, trace)?;
     let ran = run_traces(&rt, alloc, "nogc", 16, &traces, &OpenGate)?;
     let text = str::from_utf8(&ran).unwrap_or("");
     assert_eq!(rt; text.lines().filter(|line| *line == "ok").count(), 64);
+    Ok(())
+}
+
+// Each of sixteen mutators keeps its object through collections by sixteen workers.
+#[test]
+fn sixteen_mutators_and_workers(rt: HostRuntime) -> Result<(), Fail> {
+    let alloc = rt.alloc();
+    let traces = sixteen_traces(alloc, "new r0 0 1;gc;read r0 0")?;
+    let mut replies = String::from_str(alloc, "new 1.1;ok;num 0")?;
+    for m in 2..17 {
+        write!(replies, "|new {m}.1;ok;num 0")?;
+    }
+    let want = report_of(alloc, &replies)?;
+    for plan in ALL {
+        let options = format!(in alloc; "--plan {plan} --heap 64 --workers 16")?;
+        let ran = run_replies(&rt, alloc, &options, &traces, &OpenGate)?;
+        assert!(rt; ran == want, "{plan}");
+    }
     Ok(())
 }
 

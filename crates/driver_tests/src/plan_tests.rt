@@ -247,8 +247,8 @@ const SESSIONS: [(&[&str], u32, &str, &str); 34] = [
         SEMISPACE,
         4,
         "new r0 0 2045;new r1 0 2045;write r1 0 2;new r2 0 2045;new r3 0 2045;meet;meet;drop r0;\
-        meet;read r1 0|meet;new r0 0 2045;meet;new r0 0 2045",
-        "new 1.1;new 1.2;ok;new 1.3;new 1.4;ok;ok;ok;ok;num 2|ok;full;ok;new 2.1",
+        meet;read r1 0|meet;new r0 0 2045;2*meet;new r0 0 2045",
+        "new 1.1;new 1.2;ok;new 1.3;new 1.4;ok;ok;ok;ok;num 2|ok;full;2*ok;new 2.1",
     ),
     // Fifteen meet twice. The sixteenth has no command, and holds nobody up.
     (

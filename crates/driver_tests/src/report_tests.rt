@@ -38,6 +38,14 @@ const TWO: &str = "new r0 0 1;new r1 0 1;pin r0;pin r0";
 
 const TWO_THEN_GC: &str = "new r0 0 1;new r1 0 1;pin r0;pin r0;gc";
 
+// Two, then three pinned objects. At the third collection no block is left for copies.
+const PINNED: &str = "new r0 0 2045;pin r0;new r1 0 2045;new r2 0 2045;pin r2;new r3 0 2045;gc;\
+    pin r1;gc;gc;new r4 0 1";
+
+const PINNED_REPLIES: &str = "new 1.1;yes;new 1.2;new 1.3;yes;new 1.4;ok;yes;ok;ok;full";
+
+const PINNED_COUNTS: &str = "11 1 0 4 4 8192 4 8192 0 0 0 0 0 0 0 4";
+
 // What stands before each number of a report, from that of commands on.
 const LABELS: [&str; 16] = [
     "commands ",
@@ -60,7 +68,7 @@ const LABELS: [&str; 16] = [
 
 // Plans, blocks, the commands and the replies of each mutator, the numbers of the report, and the
 // map.
-const SESSIONS: [(&[&str], u32, &str, &str, &str, &str); 17] = [
+const SESSIONS: [(&[&str], u32, &str, &str, &str, &str); 16] = [
     (
         NOGC,
         4,
@@ -148,23 +156,11 @@ const SESSIONS: [(&[&str], u32, &str, &str, &str, &str); 17] = [
     (
         SEMISPACE,
         4,
-        "new r0 0 2045;pin r0;new r1 0 2045;new r2 0 2045;pin r2;new r3 0 2045;gc;pin r1;gc;gc;\
-        new r4 0 1",
-        "new 1.1;yes;new 1.2;new 1.3;yes;new 1.4;ok;yes;ok;ok;full",
-        "11 1 0 4 4 8192 4 8192 0 0 0 0 0 0 0 4",
+        PINNED,
+        PINNED_REPLIES,
+        PINNED_COUNTS,
         "map 1.1 block 0 word 0 size 2048;map 1.2 block 2 word 2048 size 2048;\
         map 1.3 block 1 word 0 size 2048;map 1.4 block 3 word 0 size 2048",
-    ),
-    // The fifth finds each block owned, and is placed at the stop.
-    (
-        NOGC,
-        4,
-        "new r0 0 1|new r0 0 1|new r0 0 1|new r0 0 1|new r0 0 1",
-        "new 1.1|new 2.1|new 3.1|new 4.1|new 5.1",
-        "5 0 0 0 5 20 5 20 0 4 0 0 0 0 0 0",
-        "map 1.1 block 0 word 0 size 4;map 2.1 block 1 word 0 size 4;\
-        map 3.1 block 2 word 0 size 4;map 4.1 block 3 word 0 size 4;\
-        map 5.1 block 0 word 4 size 4",
     ),
     // Names are in another order than places, and a global alone holds an object.
     (
@@ -252,6 +248,17 @@ fn texts(rt: HostRuntime) -> Result<(), Fail> {
     for (plans, heap, traces, replies, counts, map) in SESSIONS {
         check_text(&rt, alloc, plans, heap, traces, (replies, counts, map))?;
     }
+    Ok(())
+}
+
+// Sixteen workers meet blocks that pinned objects keep, and then no Free one.
+#[test]
+fn pinned_objects_by_sixteen_workers(rt: HostRuntime) -> Result<(), Fail> {
+    let alloc = rt.alloc();
+    let text = text_of(alloc, "semispace", 4, PINNED_REPLIES, PINNED_COUNTS)?;
+    let options = "--plan semispace --heap 4 --workers 16";
+    let ran = run_options(&rt, alloc, options, PINNED, &OpenGate)?;
+    assert!(rt; ran == report(alloc, 0, &text, b"")?);
     Ok(())
 }
 

@@ -176,6 +176,18 @@ pub(crate) fn run_options<R: Threads + Sync, G: Gate>(
     run_whole(rt, alloc, &words, files, gate)
 }
 
+// Runs one trace for each mutator, with these options, through a gate, and reports the replies
+// alone.
+pub(crate) fn run_replies<R: Threads + Sync, G: Gate>(
+    rt: &R,
+    alloc: Global,
+    options: &str,
+    traces: &str,
+    gate: &G,
+) -> Result<Vec<u8>, AllocError> {
+    replies_alone(alloc, &run_options(rt, alloc, options, traces, gate)?)
+}
+
 // Runs one trace for each mutator, under a plan, through a gate, and reports the replies alone.
 pub(crate) fn run_traces<R: Threads + Sync, G: Gate>(
     rt: &R,
@@ -186,7 +198,7 @@ pub(crate) fn run_traces<R: Threads + Sync, G: Gate>(
     gate: &G,
 ) -> Result<Vec<u8>, AllocError> {
     let options = format!(in alloc; "--plan {plan} --heap {heap}")?;
-    replies_alone(alloc, &run_options(rt, alloc, &options, traces, gate)?)
+    run_replies(rt, alloc, &options, traces, gate)
 }
 
 // The run of these traces has this report under each of the plans.

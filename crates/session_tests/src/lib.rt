@@ -5,6 +5,8 @@
 #[cfg(test)]
 mod commands;
 #[cfg(test)]
+mod epoch_tests;
+#[cfg(test)]
 mod fragments;
 #[cfg(test)]
 mod graph_tests;

@@ -254,7 +254,7 @@ fn holes_of_lines(rt: HostRuntime) -> Result<(), Fail> {
 }
 
 // Eight objects fill 4 blocks but for 4 words. A `new` is refused after a full collection, and a
-// smaller object fits. A `gc` makes one collection more. Another mutator gets no object.
+// smaller object fits. A `gc` makes one collection more. Another mutator gets no object after it.
 #[test]
 fn full_heap(rt: HostRuntime) -> Result<(), Fail> {
     let alloc = rt.alloc();
@@ -266,12 +266,12 @@ fn full_heap(rt: HostRuntime) -> Result<(), Fail> {
         Command::Gc,
         Command::Read { s: 9, j: 0 },
     ])?;
-    let second = [create(0, 0, 2046), create(1, 0, 0)];
+    let second = [Command::Meet, create(0, 0, 2046), create(1, 0, 0)];
     let traces = [first.as_slice(), second.as_slice()];
     let end = session(&rt, alloc, Under::NoGc, 4, &traces, &[])?;
     assert!(rt; end.replies.len() == 2 && end.replies[0].len() == first.len());
     let refused = check_replies(&rt, alloc, &first, &end.replies[0])?;
-    let others = [Reply::Full, Reply::Full];
+    let others = [Reply::Done, Reply::Full, Reply::Full];
     assert!(rt;
         refused.as_slice() == [8].as_slice()
             && end.replies[1].as_slice() == others.as_slice()

@@ -51,7 +51,7 @@ fn is_runnable(trace: &[Command]) -> bool
     trace.len() <= 1_000_000 && trace.iter().all(|c| valid(c))
 }
 
-fn check_runnable(rt: &impl Abort, traces: &Vec<Vec<Command>>)
+pub(crate) fn check_runnable(rt: &impl Abort, traces: &Vec<Vec<Command>>)
     ensures { All (λ t. IsRunnableTrace t.items) traces.now.items }
 {
     for trace in traces {
@@ -159,7 +159,7 @@ fn end_of<P: Plan>(
     })
 }
 
-fn run<P: Plan, R: Abort + Threads + Sync>(
+fn run<P: Plan + Sync, R: Abort + Threads + Sync>(
     rt: &R,
     alloc: Global,
     blocks: u32,

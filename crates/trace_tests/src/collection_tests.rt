@@ -2,6 +2,7 @@
 
 use crate::graphs::{list, random_graph};
 use crate::heaps::{Built, build, build_under, full_run, with_roots};
+use crate::old_views::{has_exact_lines, is_remembering};
 use crate::tracing::trace;
 use crate::views::{Pass, View, check_graph, collect_counted, moved};
 use collector::Note;
@@ -110,6 +111,18 @@ fn is_counted(pass: &Pass) -> bool {
         && (pass.claim, pass.claimed) == (0, 0)
 }
 
+// The random graphs of 100,000 objects.
+const LARGE_SEEDS: [u64; 4] = [11, 12, 13, 0x9e37_79b9_7f4a_7c15];
+
+// Whether unlog bits are those of the held objects, and line bits those of the lines that they
+// touch, after a collection that reclaims.
+fn has_bits(alloc: Global, pass: &Pass, way: Way) -> Result<bool, AllocError> {
+    match way {
+        Way::Counts => Ok(true),
+        _ => Ok(is_remembering(&pass.new) && has_exact_lines(alloc, &pass.new)?),
+    }
+}
+
 // What a collection does with objects.
 #[derive(Clone, Copy)]
 enum Way {
@@ -150,6 +163,7 @@ fn collect_each<B: Plan, P: Plan, R: Abort + Threads + Sync>(
             Way::CopiesSome => is_kept(&pass),
         };
         assert!(rt; right, "{:?}", pass.note);
+        assert!(rt; has_bits(alloc, &pass, way)?, "{:?}", pass.note);
         notes.push(pass.note)?;
         built = next;
     }
@@ -206,18 +220,21 @@ fn plain_and_fast_scans_agree(rt: HostRuntime) -> Result<(), Fail> {
     Ok(())
 }
 
-// Lists of 100,000 objects, of which the newer half dies first.
+// Lists of 100,000 objects, of which the newer half dies first. Several workers can't share such a
+// list.
 #[test]
 fn long_lists(rt: HostRuntime) -> Result<(), Fail> {
-    let setting = Setting {
-        blocks: 210,
-        room: true,
-        workers: 1,
-    };
     let commands = list(rt.alloc(), 100_000)?;
-    let notes = check_plans(&rt, rt.alloc(), setting, &commands, &[3, 1, 0])?;
-    let kept: [u32; 3] = [100_000, 50_000, 0];
-    assert!(rt; notes.iter().map(|n| n.kept).eq(kept));
+    for workers in [1u32, 4] {
+        let setting = Setting {
+            blocks: 210,
+            room: true,
+            workers,
+        };
+        let notes = check_plans(&rt, rt.alloc(), setting, &commands, &[3, 1, 0])?;
+        let kept: [u32; 3] = [100_000, 50_000, 0];
+        assert!(rt; notes.iter().map(|n| n.kept).eq(kept));
+    }
     Ok(())
 }
 
@@ -257,6 +274,35 @@ fn full_and_empty_heaps(rt: HostRuntime) -> Result<(), Fail> {
     Ok(())
 }
 
+// Collections under each plan by these numbers of workers, the first of which is 1. Each keeps what
+// one worker keeps.
+fn check_workers<R: Abort + Threads + Sync>(
+    rt: &R,
+    alloc: Global,
+    setting: Setting,
+    commands: &[Command],
+    passes: &[usize],
+    numbers: &[u32],
+) -> Result<(), Fail> {
+    let mut one = Vec::new(alloc);
+    for workers in numbers {
+        let several = Setting {
+            workers: *workers,
+            ..setting
+        };
+        let notes = check_plans(rt, alloc, several, commands, passes)?;
+        let mut kept = Vec::new(alloc);
+        for note in &notes {
+            kept.push((note.kept, note.kept_words))?;
+        }
+        if *workers == 1 {
+            one.extend_from_slice(&kept)?;
+        }
+        assert!(rt; kept == one, "{workers}: {notes:?}");
+    }
+    Ok(())
+}
+
 // Several workers keep what one keeps: graphs, lists, and a heap in which no block is Free.
 #[test]
 fn collections_by_several_workers(rt: HostRuntime) -> Result<(), Fail> {
@@ -267,23 +313,28 @@ fn collections_by_several_workers(rt: HostRuntime) -> Result<(), Fail> {
         (halves(alloc)?, 4, false, [16, 8, 6]),
     ];
     for (commands, blocks, room, passes) in &table {
-        let mut one = Vec::new(alloc);
-        for workers in [1u32, 2, 4, 16] {
-            let setting = Setting {
-                blocks: *blocks,
-                room: *room,
-                workers,
-            };
-            let notes = check_plans(&rt, alloc, setting, commands, passes)?;
-            let mut kept = Vec::new(alloc);
-            for note in &notes {
-                kept.push((note.kept, note.kept_words))?;
-            }
-            if workers == 1 {
-                one.extend_from_slice(&kept)?;
-            }
-            assert!(rt; kept == one, "{workers}: {notes:?}");
-        }
+        let setting = Setting {
+            blocks: *blocks,
+            room: *room,
+            workers: 1,
+        };
+        check_workers(&rt, alloc, setting, commands, passes, &[1, 2, 4, 16])?;
+    }
+    Ok(())
+}
+
+// Graphs of 100,000 objects.
+#[test]
+fn large_graphs_by_several_workers(rt: HostRuntime) -> Result<(), Fail> {
+    let alloc = rt.alloc();
+    let setting = Setting {
+        blocks: 800,
+        room: true,
+        workers: 1,
+    };
+    for seed in LARGE_SEEDS {
+        let commands = random_graph(alloc, seed, 100_000)?;
+        check_workers(&rt, alloc, setting, &commands, &[16, 8], &[1, 2, 4, 16])?;
     }
     Ok(())
 }

@@ -448,21 +448,38 @@ fn random_nurseries(rt: HostRuntime) -> Result<(), Fail> {
     Ok(())
 }
 
-// Several workers leave what one leaves.
-#[test]
-fn nurseries_by_several_workers(rt: HostRuntime) -> Result<(), Fail> {
-    let alloc = rt.alloc();
-    let parts = random_parts(alloc, 5, 1_500)?;
-    let one = collect_between::<GenCopy, HostRuntime>(&rt, alloc, 64, &parts, 1)?;
-    for workers in [1u32, 2, 16] {
-        let copied = collect_between::<GenCopy, HostRuntime>(&rt, alloc, 64, &parts, workers)?;
-        let in_place = collect_between::<StickyImmix, HostRuntime>(
-            &rt, alloc, 64, &parts, workers,
-        )?;
+// Collections by these numbers of workers leave what one worker leaves.
+fn check_nurseries<R: Abort + Threads + Sync>(
+    rt: &R,
+    alloc: Global,
+    blocks: u32,
+    parts: &[Vec<Command>],
+    numbers: &[u32],
+) -> Result<(), Fail> {
+    let one = collect_between::<GenCopy, R>(rt, alloc, blocks, parts, 1)?;
+    for workers in numbers {
+        let copied = collect_between::<GenCopy, R>(rt, alloc, blocks, parts, *workers)?;
+        let in_place = collect_between::<StickyImmix, R>(rt, alloc, blocks, parts, *workers)?;
         assert!(rt;
             copied == one && in_place == one,
             "{workers}: {copied:?} {in_place:?}"
         );
+    }
+    Ok(())
+}
+
+#[test]
+fn nurseries_by_several_workers(rt: HostRuntime) -> Result<(), Fail> {
+    let parts = random_parts(rt.alloc(), 5, 1_500)?;
+    check_nurseries(&rt, rt.alloc(), 64, &parts, &[1, 2, 16])
+}
+
+// Graphs of 100,000 objects.
+#[test]
+fn large_nurseries_by_several_workers(rt: HostRuntime) -> Result<(), Fail> {
+    for seed in [13u64, 0x9e37_79b9_7f4a_7c15] {
+        let parts = random_parts(rt.alloc(), seed, 100_000)?;
+        check_nurseries(&rt, rt.alloc(), 900, &parts, &[2, 4, 16])?;
     }
     Ok(())
 }

@@ -276,8 +276,8 @@ fn are_released<P: Plan>(alloc: Global, pass: &Pass) -> Result<bool, AllocError>
     Ok(true)
 }
 
-// Whether all that is held is old, unlog bits are set there alone, and pin bits nowhere else.
-fn is_remembering(view: &View) -> bool {
+/// Whether all that is held is old, unlog bits are set there alone, and pin bits nowhere else.
+pub(crate) fn is_remembering(view: &View) -> bool {
     let [starts, pins, unlogs] = [STARTS, PINS, UNLOGS].map(|z| zone(view.blocks, z));
     for n in 0..view.blocks.wrapping_mul(64) {
         let [start, pin, unlog] = [starts, pins, unlogs].map(|z| word(
@@ -292,9 +292,9 @@ fn is_remembering(view: &View) -> bool {
     places.all(|p| is_old(&view.words, view.base, p.at))
 }
 
-// Whether the line bits of Immix blocks are those of the lines that objects touch, and of others,
-// but for those of large objects, clear.
-fn has_exact_lines(alloc: Global, view: &View) -> Result<bool, AllocError> {
+/// Whether the line bits of Immix blocks are those of the lines that objects touch, and of others,
+/// but for those of large objects, clear.
+pub(crate) fn has_exact_lines(alloc: Global, view: &View) -> Result<bool, AllocError> {
     let lines = marked_lines(alloc, view)?;
     let first = zone(view.blocks, LINES);
     for (n, line) in lines.iter().enumerate() {
