@@ -1,11 +1,13 @@
 -- Each step keeps the rule: one proof for every event of the mutator machine.
-use Rattle.std.proofs.Common.{◌≡◌, ◌≢◌, ℕ, zero, suc, ◌+◌, ◌<◌, ◌≤◌, Bool, List, [], ◌∷◌, ◌++◌, length, inl, inr, refl, ap, sym, ◌∙◌, subst, ⊎_elim, arith}
+use Rattle.std.proofs.Common.{◌≡◌, ◌≢◌, ℕ, zero, suc, ◌+◌, ◌<◌, ◌≤◌, Bool, true, false, nat_eq, List, [], ◌∷◌, ◌++◌, length, inl, inr, refl, ap, sym, ◌∙◌, subst, ⊎_elim, arith}
 use Rattle.std.specs.Prelude.{slice_index, slice_set}
+use Rattle.std.proofs.lemmas.List.{set-get_or}
+use Rattle.std.proofs.lemmas.Bool.{cases_eq, eqb-true, eqb-false}
 use Rattle.std.specs.List.{Contains}
 use mathlib.Core.Option.{some, some-injective, some-ne-none}
 use mathlib.Core.List.{IsPrefix}
 use lib.ListN.{get_elem?}
-use Rattle.atomic_table.specs.Table.{State, Me, keeps, Allows}
+use Rattle.atomic_table.specs.Table.{State, Me, Act, Valid, keeps, Allows, stepped, carried_after}
 use Rattle.atomic_table.proofs.Lists.{at_set}
 use Rattle.ideal_heap.specs.Ideal.{IdealHeap}
 use Rattle.object_model.specs.Graphs.{numbers_of}
@@ -20,7 +22,7 @@ use Rattle.mutator_core.specs.Logs.{IsEpochLog, machine_after, local_after_log}
 use Rattle.mutator_rule.specs.declared.views.EpochStart.{EpochStart}
 use Rattle.mutator_rule.specs.declared.views.MutatorView.{MutatorView}
 use Rattle.mutator_rule.specs.Views.{epoch_with, first_of, views_of, times_in, steps_by}
-use Rattle.mutator_rule.specs.Logs.{times_dealt, AgreesWithLog, Agrees, HasOneLog, MakesStepIn, MakesStep, StaysInRow, entry_for}
+use Rattle.mutator_rule.specs.Logs.{times_dealt, AgreesWithLog, Agrees, HasOneLog, MakesStepIn, MakesStep, MakesStepAlone, LeavesWord, StaysInRow, entry_for}
 use Rattle.mutator_rule.proofs.Pushes.{after-push, log-push, own-push, other-push, steps-append, prefix-push, prefix-self, nothing-more, own-state, other-state, counted}
 use Rattle.mutator_rule.proofs.Totals.{total_set, total_one, total_two, parts_one, parts_has}
 use Rattle.mutator_rule.proofs.Moments.{number, inside-row}
@@ -149,3 +151,58 @@ pub stores : (rules : Rules) (g : EpochStart) (slots id : ℕ) (me : Me (Unit {0
 stores rules g slots id me x i v start may here turns one s rule homes at small =
     let t = makes rules g slots id me x i (λ n. v) start may here turns one s rule homes at small in
     (t.0, t.1, t.2, t.3, ((slice_index s.words i, t.4.0), t.4.1, t.4.2))
+
+-- where nothing is stored, and the seat keeps its views, the rule stays
+stays : (rules : Rules) (g : EpochStart) (id i : ℕ) (me : Me (Unit {0}) (List MutatorView)) (s : State (Unit {0}) (List MutatorView)) → HasOneLog rules g s → get_elem? s.views id ≡ some me.0
+    → HasOneLog rules g (stepped s i (slice_index s.words i) id me.1 me.0 keeps)
+stays rules g id i me s rule at = record {
+  log = rule.log;
+  ideal = rule.ideal;
+  epoch = rule.epoch;
+  words = rule.words ∙ sym (set-get_or s.words i 0);
+  differ = rule.differ;
+  apart = rule.apart;
+  views = λ j. (let all = rule.views j in omega (arith, all, total_set (λ (v : List MutatorView). views_of j v) s.views id me.0 me.0 at));
+  agree = λ j u e'. ⊎_elim
+      (λ (t : (j ≡ id) × (me.0 ≡ u)). rule.agree id u (at ∙ ap some t.1))
+      (λ (t : (j ≢ id) × (get_elem? s.views j ≡ some u)). rule.agree j u t.1)
+      (at_set s.views id j me.0 u e');
+}
+
+-- the step if it leaves the word, and else nothing
+abbrev pub IfLeft : Rules → Me (Unit {0}) (List MutatorView) → Event → ℕ → Me (Unit {0}) (List MutatorView) → Type 0
+IfLeft rules me x n now = (LeavesWord rules (first_of me.0) x n → MakesStepAlone rules me x n now) × ((LeavesWord rules (first_of me.0) x n → ⊥) → now ≡ me)
+
+-- a load, which is the step if it finds the word that the step stores, and else nothing
+pub finds : (rules : Rules) (g : EpochStart) (slots id : ℕ) (me : Me (Unit {0}) (List MutatorView)) (x : Event) (i v : ℕ)
+    → (first_of me.0).start ≡ g → MayStep (epoch_with rules (first_of me.0).start) (first_of me.0).local x
+    → word_of_event (epoch_with rules (first_of me.0).start) (first_of me.0).local x ≡ i → stored (epoch_with rules (first_of me.0).start) (first_of me.0).local x ≡ (λ (n : ℕ). v) → me.0 ≡ first_of me.0 ∷ []
+    → Allows (HasOneLog rules g) slots id me i (λ n. n) (λ n now. IfLeft rules me x n now)
+finds rules g slots id me x i v start may here turns one s rule homes at small =
+    let n : ℕ = slice_index s.words i in
+    let t = makes rules g slots id me x i (λ n. v) start may here turns one s rule homes at small in
+    let is : stored (epoch_with rules (first_of me.0).start) (first_of me.0).local x n ≡ v = λ k. turns k n in
+    elim (cases_eq n v) as (λ _. (w : List MutatorView) × (a : Act (Unit {0})) × Valid s.homes me.1 a × HasOneLog rules g (stepped s i n id me.1 w a)
+    × IfLeft rules me x n (w, carried_after me.1 a)) [
+      | inl same ↦ (t.0, t.1, t.2, subst (λ (k : ℕ). HasOneLog rules g (stepped s i k id me.1 t.0 t.1)) (sym same) t.3, ((λ _. t.4), λ other. absurd (other (is ∙ sym same))))
+      | inr other ↦ (me.0, keeps, tt, stays rules g id i me s rule at, ((λ same. absurd (other (sym same ∙ is))), λ _. refl))
+    ]
+
+-- what holds after the step, and held before, holds after such a load
+pub kept-by-finding : (rules : Rules) (me now : Me (Unit {0}) (List MutatorView)) (x : Event) (n v : ℕ) (Q : Me (Unit {0}) (List MutatorView) → Type 0)
+    → stored (epoch_with rules (first_of me.0).start) (first_of me.0).local x ≡ (λ (k : ℕ). v) → IfLeft rules me x n now → (MakesStepAlone rules me x n now → Q now) → Q me → Q now
+kept-by-finding rules me now x n v Q turns told made before = elim (cases_eq n v) as (λ _. Q now) [
+  | inl same ↦ made (told.0 ((λ k. turns k n) ∙ sym same))
+  | inr other ↦ subst Q (sym (told.1 (λ left. other (sym left ∙ (λ k. turns k n))))) before
+]
+
+pub found-stored : (rules : Rules) (me now : Me (Unit {0}) (List MutatorView)) (x : Event) (n v : ℕ) → stored (epoch_with rules (first_of me.0).start) (first_of me.0).local x ≡ (λ (k : ℕ). v) → IfLeft rules me x n now
+    → nat_eq n v ≡ true → MakesStep rules (first_of me.0) x v (first_of now.0)
+found-stored rules me now x n v turns told is =
+    let same : n ≡ v = eqb-true n v is in
+    subst (λ k. MakesStep rules (first_of me.0) x k (first_of now.0)) same (told.0 ((λ k. turns k n) ∙ sym same)).0
+
+pub found-other : (rules : Rules) (me now : Me (Unit {0}) (List MutatorView)) (x : Event) (n v : ℕ) → stored (epoch_with rules (first_of me.0).start) (first_of me.0).local x ≡ (λ (k : ℕ). v) → IfLeft rules me x n now
+    → nat_eq n v ≡ false → now ≡ me
+found-other rules me now x n v turns told isnt =
+    told.1 (λ left. eqb-false n v isnt (sym left ∙ (λ k. turns k n)))

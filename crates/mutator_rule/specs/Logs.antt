@@ -4,7 +4,7 @@ use Rattle.std.specs.List.{Contains}
 use mathlib.Core.List.{IsPrefix}
 use mathlib.Core.Option.{some}
 use lib.ListN.{get_elem?}
-use Rattle.atomic_table.specs.Table.{State}
+use Rattle.atomic_table.specs.Table.{State, Me}
 use Rattle.heap_layout.specs.Zones.{heap_of}
 use Rattle.ideal_heap.specs.Ideal.{IdealHeap}
 use Rattle.ideal_heap.specs.Runs.{Entry}
@@ -16,11 +16,11 @@ use Rattle.sessions.specs.Plans.{Rules}
 use Rattle.mutator_core.specs.declared.state.Local.{Local}
 use Rattle.mutator_core.specs.declared.state.LogEntry.{LogEntry}
 use Rattle.mutator_core.specs.declared.state.Event.{Event}
-use Rattle.mutator_core.specs.Machine.{Epoch, answer, local_after, found, address_in, refs_in, nums_in}
+use Rattle.mutator_core.specs.Machine.{Epoch, answer, local_after, found, stored, address_in, refs_in, nums_in}
 use Rattle.mutator_core.specs.Logs.{IsEpochLog, machine_after, local_after_log, history_of}
 use Rattle.mutator_rule.specs.declared.views.EpochStart.{EpochStart}
 use Rattle.mutator_rule.specs.declared.views.MutatorView.{MutatorView}
-use Rattle.mutator_rule.specs.Views.{epoch_with, views_of, times_in, steps_by, entries_by}
+use Rattle.mutator_rule.specs.Views.{epoch_with, first_of, views_of, times_in, steps_by, entries_by}
 
 -- how many views of all seats are the mutator's
 abbrev pub times_dealt : ℕ → List (List MutatorView) → ℕ
@@ -93,6 +93,16 @@ pub record MakesStepIn (p : Epoch) (a : MutatorView) (x : Event) (n : ℕ) (b : 
 
 abbrev pub MakesStep : Rules → MutatorView → Event → ℕ → MutatorView → Type 0
 MakesStep rules a x n b = MakesStepIn (epoch_with rules a.start) a x n b
+
+-- the same of a seat that has one view, and keeps all else
+abbrev pub MakesStepAlone : Rules → Me (Unit {0}) (List MutatorView) → Event → ℕ
+    → Me (Unit {0}) (List MutatorView) → Type 0
+MakesStepAlone rules me x n now = MakesStep rules (first_of me.0) x n (first_of now.0)
+    × (now.0 ≡ first_of now.0 ∷ []) × (now.1 ≡ me.1)
+
+-- the event of the mutator stores the word that it finds
+abbrev pub LeavesWord : Rules → MutatorView → Event → ℕ → Type 0
+LeavesWord rules a x n = stored (epoch_with rules a.start) a.local x n ≡ n
 
 -- the history that the mutator has seen, and its own entries in it
 abbrev pub history_seen : Rules → MutatorView → List Entry

@@ -68,6 +68,22 @@ impl<P: EpochRules, E: PicksEvent> Play<(), SeatView> for StoresWord<P, E> {
         × (now.0 ≡ first_of now.0 ∷ []) × (now.1 ≡ me.1) };
 }
 
+/// A load that makes the event if the event leaves the word that it found, and else nothing.
+pub(crate) struct FindsStored<P, E> {
+    made: PhantomData<(P, E)>,
+}
+
+impl<P: EpochRules, E: PicksEvent> Play<(), SeatView> for FindsStored<P, E> {
+    ghost use Rattle.std.specs.Prelude.{◌≡◌};
+    ghost use Rattle.mutator_rule.specs.Views.{first_of};
+    ghost use Rattle.mutator_rule.specs.Logs.{LeavesWord, MakesStepAlone};
+
+    ghost then = { λ step me found now.
+        (LeavesWord P.rules (first_of me.0) E.event found
+        → MakesStepAlone P.rules me E.event found now)
+        × ((LeavesWord P.rules (first_of me.0) E.event found → ⊥) → now ≡ me) };
+}
+
 /// A seat gives its first view away.
 pub(crate) struct Deal;
 

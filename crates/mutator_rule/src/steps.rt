@@ -1,6 +1,6 @@
 //! The atomic steps of a seat. Each makes the event that it is handed, without use at run time.
 
-ghost use Rattle.std.specs.Prelude.{◌≡◌, ◌<◌, ◌+◌, ◌%◌, ◌^◌, ◌==◌, ℕ, slice_set, bit_or, bit_and};
+ghost use Rattle.std.specs.Prelude.{◌≡◌, ◌<◌, ◌+◌, ◌%◌, ◌^◌, ◌==◌, ℕ, slice_set, bit_or, bit_and, true, false};
 ghost use prog.Atomic.{either};
 ghost use Rattle.mutator_core.specs.Machine.{word_of_event, stored, local_after};
 ghost use Rattle.mutator_core.specs.Guards.{MayStep};
@@ -8,7 +8,7 @@ ghost use Rattle.mutator_rule.specs.Logs.{MakesStep};
 ghost use Rattle.mutator_rule.specs.Seats.{IsSeatOf, known, epoch_of_seat, local_of};
 
 use crate::racing_row::RacingRow;
-use crate::rule::{EpochRules, FindsWord, PicksEvent, StoresWord};
+use crate::rule::{EpochRules, FindsStored, FindsWord, PicksEvent, StoresWord};
 use crate::seat::MutatorSeat;
 use ideal_heap::REGISTERS;
 use mutator_core::Event;
@@ -208,7 +208,41 @@ impl<P: EpochRules> RacingRow<P> {
             .store::<StoresWord<P, E>>(&mut me.seat, at, new);
     }
 
-    /// A store that makes the event.
+    // A load, which makes the event if the word already is what the event stores, else nothing.
+    #[inline(always)]
+    fn finds_as<E: PicksEvent>(
+        &self,
+        me: &mut MutatorSeat,
+        at: usize,
+        new: u64,
+        _event: &Event,
+    ) -> bool
+        requires event { E.event ≡ _event.now }
+        requires own { IsSeatOf P.rules self.now me.old }
+        requires may { MayStep (epoch_of_seat P.rules me.old) (local_of me.old) E.event }
+        requires place { word_of_event (epoch_of_seat P.rules me.old) (local_of me.old)
+            E.event ≡ at }
+        requires stored { stored (epoch_of_seat P.rules me.old) (local_of me.old) E.event
+            ≡ (λ _. new) }
+        requires quiet { (n : ℕ)
+            → (local_after (epoch_of_seat P.rules me.old) (local_of me.old) E.event n).registers
+            ≡ (local_of me.old).registers }
+        requires births { (n : ℕ)
+            → (local_after (epoch_of_seat P.rules me.old) (local_of me.old) E.event n).births
+            ≡ (local_of me.old).births }
+        requires inside { at < self.now.row.words.table_id.words }
+        ensures own { IsSeatOf P.rules self.now me.new }
+        ensures notes { me.new.notes ≡ me.old.notes }
+        ensures registers { me.new.registers ≡ me.old.registers }
+        ensures step { result ≡ true
+            → MakesStep P.rules (known me.old) E.event new (known me.new) }
+        ensures nothing { result ≡ false → known me.new ≡ known me.old }
+    {
+        self.row.words.load::<FindsStored<P, E>>(&mut me.seat, at) == new
+    }
+
+    /// A store that makes the event. If the word is so already, a load makes it, in a fifth of the
+    /// time.
     #[inline(always)]
     pub fn put(&self, me: &mut MutatorSeat, at: usize, new: u64, event: &Event)
         requires own { IsSeatOf P.rules self.now me.old }
@@ -230,6 +264,9 @@ impl<P: EpochRules> RacingRow<P> {
         ensures step { (found : ℕ)
             × MakesStep P.rules (known me.old) event.now found (known me.new) }
     {
+        if self.finds_as::<Brand>(me, at, new, event) {
+            return;
+        }
         self.put_as::<Brand>(me, at, new, event);
     }
 

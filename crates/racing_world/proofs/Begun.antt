@@ -26,23 +26,24 @@ use Rattle.mutator_rule.specs.declared.views.MutatorView.{MutatorView}
 use Rattle.mutator_rule.specs.Views.{first_view, epoch_with}
 use Rattle.mutator_rule.proofs.Loops.{get-or-elem}
 use Rattle.mutator_core.specs.Machine.{mutator_of}
-use Rattle.mutator_rule.specs.Logs.{history_seen, own_entries}
+use Rattle.mutator_rule.specs.Logs.{KnowsLog, history_seen, own_entries}
 use Rattle.mutator_rule.specs.Seats.{known, IsSeatOf, HasFirstNotes, start_of}
 use Rattle.mutator_core.proofs.Lists.{contains-none}
-use Rattle.racing_world.specs.Logged.{logged_seen}
+use Rattle.racing_mutator.specs.Logged.{logged_seen}
 use Rattle.mutator_core.specs.Guards.{allowance}
 use Rattle.mutator_core.specs.Logs.{heap_after}
-use Rattle.block_regions.proofs.NoteLemmas.{small-hole}
+use Rattle.block_regions.specs.Notes.{AreUnowned, HasNotes}
 use Rattle.block_regions.proofs.Lists.{get-copy}
 use Rattle.block_regions.specs.declared.block_notes.BlockNote.{BlockNote}
-use Rattle.block_regions.specs.declared.block_notes.BlockNote.TheVariants.{Unowned, Owned}
+use Rattle.block_regions.specs.declared.block_notes.BlockNote.TheVariants.{Unowned}
 use Rattle.local_allocators.specs.declared.local_seat.LocalSeat.{LocalSeat}
 use Rattle.mutator_rule.specs.declared.seat_notes.SeatNotes.{SeatNotes}
-use Rattle.mutator_rule.specs.FirstNotes.{AreFirstNotes, first_local_seat}
-use Rattle.racing_world.specs.Rooms.{HasRoomsIn, holdings}
-use Rattle.racing_world.specs.RacingSeats.{MayCall}
+use Rattle.mutator_rule.specs.FirstNotes.{first_local_seat}
+use Rattle.racing_rooms.specs.Rooms.{HasRoomsIn, holdings}
+use Rattle.racing_mutator.specs.RacingSeats.{MayCall}
 use Rattle.racing_world.specs.Calls.{number_of, IsFresh}
 use Rattle.racing_world.specs.Closing.{mutator_at}
+use Rattle.racing_world.specs.ClosingNotes.{TakesNotes, EachTakesNotes}
 
 -- a heap that mutators may use begins an epoch, and represents an ideal heap
 pub ready : (r : Rules) (s : HeapState) (ms : List Mutator) → IsLawful s → IsTrue (has_holes r.fill) → Remembers r s → length ms ≤ 16 → EpochMayBegin (epoch_of r s (map mutator_state ms))
@@ -68,19 +69,63 @@ first-known x xs g m ms e = let t : known x ∷ map known xs ≡ first_view g m 
 none-known : (x : MutatorSeat) (xs : List MutatorSeat) (g : EpochStart) → map known (x ∷ xs) ≡ map (first_view g) [] → ⊥
 none-known x xs g e = let t : known x ∷ map known xs ≡ [] = e in cc
 
+-- the notes of a mutator as an epoch begins: these of the blocks, and no block and no ticket of its own
+pub record AreBegunNotes (blocks allowed : ℕ) (notes : List BlockNote) (n : SeatNotes) : Type 0 where
+  pub flags : n.flags.items ≡ replicate blocks false
+  pub blocks_noted : n.blocks.items ≡ notes
+  pub local : n.local ≡ first_local_seat
+  pub allowance_is : n.allowance ≡ allowed
+
+abbrev pub HasBegunNotes : {P : Type 0} → RacingRow P → ℕ → List BlockNote → MutatorSeat → Type 0
+HasBegunNotes row allowed notes seat = AreBegunNotes row.layout.blocks allowed notes seat.notes
+
+-- what a seat has is kept as it takes notes of the blocks
+tail-each : (notes : List BlockNote) (x y : MutatorSeat) (xs ys : List MutatorSeat) → EachTakesNotes notes (x ∷ xs) (y ∷ ys) → EachTakesNotes notes xs ys
+tail-each notes x y xs ys all = record {
+  len = (let l : suc (length ys) ≡ suc (length xs) = all.len in omega arith);
+  each = λ place a b at here. all.each (suc place) a b at here;
+}
+
+pub all-each : (notes : List BlockNote) (Q R : MutatorSeat → Type 0) → ((a b : MutatorSeat) → TakesNotes notes a b → Q a → R b) → (xs ys : List MutatorSeat) → All Q xs → EachTakesNotes notes xs ys → All R ys
+all-each notes Q R step [] [] all each = All-nil R
+all-each notes Q R step [] (y ∷ ys) all each = absurd (let l : suc (length ys) ≡ 0 = each.len in omega arith)
+all-each notes Q R step (x ∷ xs) [] all each = absurd (let l : 0 ≡ suc (length xs) = each.len in omega arith)
+all-each notes Q R step (x ∷ xs) (y ∷ ys) all each =
+    All-cons R y ys (step x y (each.each 0 x y refl refl) (All-head Q x xs all)) (all-each notes Q R step xs ys (All-tail Q x xs all) (tail-each notes x y xs ys each))
+
+pub known-each : (notes : List BlockNote) (xs ys : List MutatorSeat) → EachTakesNotes notes xs ys → map known ys ≡ map known xs
+known-each notes [] [] each = refl
+known-each notes [] (y ∷ ys) each = absurd (let l : suc (length ys) ≡ 0 = each.len in omega arith)
+known-each notes (x ∷ xs) [] each = absurd (let l : 0 ≡ suc (length xs) = each.len in omega arith)
+known-each notes (x ∷ xs) (y ∷ ys) each = λ k. (each.each 0 x y refl refl).known_stays.known_stays k ∷ known-each notes xs ys (tail-each notes x y xs ys each) k
+
+pub seats-each : {P : Type 0} (rules : Rules) (row : RacingRow P) (notes : List BlockNote) (xs ys : List MutatorSeat) → All (IsSeatOf rules row) xs → EachTakesNotes notes xs ys → All (IsSeatOf rules row) ys
+seats-each rules row notes xs ys all each = all-each notes (IsSeatOf rules row) (IsSeatOf rules row) (λ a b takes own.
+    let same = sym takes.known_stays.known_stays in (
+      takes.known_stays.table ∙ own.0,
+      subst (λ (v : MutatorView). v.start ≡ start_of row) same own.1,
+      subst (λ (v : MutatorView). KnowsLog (epoch_with rules v.start) v) same own.2,
+    )) xs ys all each
+
+pub notes-each : {P : Type 0} (row : RacingRow P) (allowed : ℕ) (notes : List BlockNote) (xs ys : List MutatorSeat) → All (HasFirstNotes row allowed) xs → EachTakesNotes notes xs ys → All (HasBegunNotes row allowed notes) ys
+notes-each row allowed notes xs ys all each = all-each notes (HasFirstNotes row allowed) (HasBegunNotes row allowed notes) (λ a b takes first. record {
+  flags = ap (λ (n : SeatNotes). n.flags.items) takes.rest ∙ first.flags;
+  blocks_noted = takes.blocks;
+  local = ap (λ (n : SeatNotes). n.local) takes.rest ∙ first.local;
+  allowance_is = ap (λ (n : SeatNotes). n.allowance) takes.rest ∙ first.allowed;
+}) xs ys all each
+
 -- the notes of the beginning are right
-pub first-rooms : (rules : Rules) (g : EpochStart) (m : Mutator) (n : SeatNotes) (v : MutatorView) → first_view g m ≡ v → (blocks : ℕ) → blocks ≡ g.blocks → AreFirstNotes blocks (allowance (epoch_with rules g)) n
+pub first-rooms : (rules : Rules) (g : EpochStart) (m : Mutator) (n : SeatNotes) (v : MutatorView) → first_view g m ≡ v → (blocks : ℕ) (notes : List BlockNote) → HasNotes rules.fill (epoch_with rules g).before notes → AreUnowned notes
+    → AreBegunNotes blocks (allowance (epoch_with rules g)) notes n
     → HasRoomsIn (epoch_with rules v.start) (heap_after (epoch_with rules v.start) v.seen) (holdings v.local) n.blocks.items n.local n.allowance
-first-rooms rules g m n v is blocks same first =
+first-rooms rules g m n v is blocks notes has nobody first =
     subst (λ (u : MutatorView). HasRoomsIn (epoch_with rules u.start) (heap_after (epoch_with rules u.start) u.seen) (holdings u.local) n.blocks.items n.local n.allowance) is (record {
-      allows = first.allowed;
+      allows = first.allowance_is;
       ticket = ap (λ (l : LocalSeat). l.ticket) first.local;
-      len = ap (λ (xs : List BlockNote). length xs) first.blocks_noted ∙ length-replicate blocks (Unowned 4097) ∙ same;
-      unowned = λ k least note. inr (λ at size more hole. small-hole rules.fill (epoch_with rules g).before k at size
-          (let e : Unowned least ≡ Unowned 4097 = get-copy blocks (Unowned 4097) (Unowned least) k (ap (λ (xs : List BlockNote). slice_get xs k) (sym first.blocks_noted) ∙ note) in
-          let few : least ≡ 4097 = cc in omega arith) hole);
-      owned = λ k owner region note. absurd (
-          let wrong : Owned owner region ≡ Unowned 4097 = get-copy blocks (Unowned 4097) (Owned owner region) k (ap (λ (xs : List BlockNote). slice_get xs k) (sym first.blocks_noted) ∙ note) in cc);
+      len = ap (λ (xs : List BlockNote). length xs) first.blocks_noted ∙ has.len;
+      unowned = λ k least note. inr (has.each k (Unowned least) (ap (λ (xs : List BlockNote). slice_get xs k) (sym first.blocks_noted) ∙ note)).none;
+      owned = λ k owner region note. absurd (nobody k owner region (ap (λ (xs : List BlockNote). slice_get xs k) (sym first.blocks_noted) ∙ note));
       noted = λ o among. absurd (contains-none o among);
       classes = ap (λ (l : LocalSeat). length l.blocks) first.local;
       each = λ class k note. absurd (none-there class k (ap (λ (l : LocalSeat). slice_get l.blocks class) (sym first.local) ∙ note));
@@ -90,11 +135,13 @@ first-rooms rules g m n v is blocks same first =
     none-there : (class k : ℕ) → slice_get (first_local_seat).blocks class ≡ Some (Some k) → ⊥
     none-there class k note = let wrong : Some k ≡ None = get-copy 19 None (Some k) class note in cc
 
-pub first-calls : {P : Type 0} (rules : Rules) (row : RacingRow P) (g : EpochStart) (xs : List MutatorSeat) (ms : List Mutator) → All (IsSeatOf rules row) xs → map known xs ≡ map (first_view g) ms → start_of row ≡ g → All (HasFirstNotes row (allowance (epoch_with rules g))) xs → All (MayCall rules row) xs
-first-calls rules row g [] ms own e same flags = All-nil (MayCall rules row)
-first-calls rules row g (x ∷ xs) [] own e same flags = absurd (none-known x xs g e)
-first-calls rules row g (x ∷ xs) (m ∷ ms) own e same flags =
+pub first-calls : {P : Type 0} (rules : Rules) (row : RacingRow P) (g : EpochStart) (notes : List BlockNote) → HasNotes rules.fill (epoch_with rules g).before notes → AreUnowned notes
+    → (xs : List MutatorSeat) (ms : List Mutator) → All (IsSeatOf rules row) xs → map known xs ≡ map (first_view g) ms → start_of row ≡ g → All (HasBegunNotes row (allowance (epoch_with rules g)) notes) xs → All (MayCall rules row) xs
+first-calls rules row g notes has nobody [] ms own e same all = All-nil (MayCall rules row)
+first-calls rules row g notes has nobody (x ∷ xs) [] own e same all = absurd (none-known x xs g e)
+first-calls rules row g notes has nobody (x ∷ xs) (m ∷ ms) own e same all =
     let is = first-known x xs g m ms e in
+    let first = All-head (HasBegunNotes row (allowance (epoch_with rules g)) notes) x xs all in
     All-cons (MayCall rules row) x xs ((
       record {
         own = All-head (IsSeatOf rules row) x xs own;
@@ -102,12 +149,12 @@ first-calls rules row g (x ∷ xs) (m ∷ ms) own e same flags =
         stored = ap (λ (v : MutatorView). v.local.pending) is.0;
       },
       record {
-        len = ap (λ (fs : List Bool). length fs) (All-head (HasFirstNotes row (allowance (epoch_with rules g))) x xs flags).flags ∙ length-replicate row.layout.blocks false ∙ ap (λ l. l.blocks) row.laid ∙ ap (λ (h : EpochStart). h.blocks) same ∙ ap (λ (v : MutatorView). v.start.blocks) (sym is.0);
+        len = ap (λ (fs : List Bool). length fs) first.flags ∙ length-replicate row.layout.blocks false ∙ ap (λ l. l.blocks) row.laid ∙ ap (λ (h : EpochStart). h.blocks) same ∙ ap (λ (v : MutatorView). v.start.blocks) (sym is.0);
         each = λ a there. absurd (contains-none a (subst (λ ls. Contains ls a) (ap (logged_seen rules) is.0) there));
       },
       record { each = λ o there free. absurd (contains-none o (subst (λ (os : List OwnedBlock). Contains os o) (ap (λ (v : MutatorView). v.local.owned) is.0) there)) },
-      first-rooms rules g m x.notes (known x) (sym is.0) row.layout.blocks (ap (λ l. l.blocks) row.laid ∙ ap (λ (h : EpochStart). h.blocks) same) (All-head (HasFirstNotes row (allowance (epoch_with rules g))) x xs flags),
-    )) (first-calls rules row g xs ms (All-tail (IsSeatOf rules row) x xs own) is.1 same (All-tail (HasFirstNotes row (allowance (epoch_with rules g))) x xs flags))
+      first-rooms rules g m x.notes (known x) (sym is.0) row.layout.blocks notes has nobody first,
+    )) (first-calls rules row g notes has nobody xs ms (All-tail (IsSeatOf rules row) x xs own) is.1 same (All-tail (HasBegunNotes row (allowance (epoch_with rules g)) notes) x xs all))
 
 none-set : (n k : ℕ) → slice_get (replicate n false) k ≡ Some true → ⊥
 none-set zero k e = let wrong : None ≡ Some true = e in cc

@@ -24,12 +24,14 @@ use Rattle.mutator_rule.specs.declared.views.MutatorView.{MutatorView}
 use Rattle.mutator_rule.specs.Views.{epoch_with, entries_by}
 use Rattle.mutator_rule.specs.Logs.{MakesEntries, history_seen, own_entries}
 use Rattle.mutator_rule.specs.Seats.{start_of}
-use Rattle.racing_world.specs.declared.racing.Racing.{Racing}
+use Rattle.racing_mutator.specs.declared.racing.Racing.{Racing}
 use Rattle.racing_world.specs.declared.world.World.{World}
-use Rattle.racing_world.specs.Rooms.{HasRooms, KeepsRooms}
-use Rattle.racing_world.proofs.RoomsKept.{rooms-kept}
-use Rattle.racing_world.specs.RacingSeats.{entries_in, view, local, epoch_of_racing, Holdings, holdings, UsesItsBlocks, MayCall, IsAtRest, HasFlags, IsReady, Makes, DoesEffect}
-use Rattle.racing_world.specs.SeatLaws.{or-false}
+use Rattle.racing_rooms.specs.Rooms.{HasRooms, KeepsRooms}
+use Rattle.racing_rooms.proofs.RoomsKept.{rooms-kept}
+use Rattle.local_allocators.specs.NotedSeats.{regions_in}
+use Rattle.mutator_rule.specs.declared.seat_notes.SeatNotes.{SeatNotes}
+use Rattle.racing_mutator.specs.RacingSeats.{entries_in, view, local, epoch_of_racing, Holdings, holdings, UsesItsBlocks, MayCall, IsAtRest, HasFlags, IsReady, Makes, DoesEffect}
+use Rattle.racing_mutator.specs.SeatLaws.{or-false}
 use Rattle.racing_world.specs.Calls.{epoch_of_world, SeesMore, EntersOnce, EntersCommand, EntersNothing}
 
 -- lists that begin alike end alike
@@ -145,6 +147,7 @@ module _ {P : Type 0} (rules : Rules) (w : World P) (a b : Racing P) (here : a.r
             (rooms-kept rules a.seat.now b.seat.now _ made.goes ready.own.2 does.kept does.rooms rooms)
             (does.raised ∙ ap (λ v. (local a).raised || v) quiet ∙ or-false (local a).raised),
         does.kept,
+        ap (λ (n : SeatNotes). regions_in n.blocks.items n.local) does.rooms,
       )
 
   pub enters-nothing : Makes rules a [] b → holdings (local b) ≡ holdings (local a) → KeepsRooms a.seat.now.notes b.seat.now.notes → EntersNothing rules w a.seat.now b.seat.now

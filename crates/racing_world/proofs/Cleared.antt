@@ -26,7 +26,7 @@ use Rattle.mutator_core.proofs.Moments.{Holds}
 use Rattle.mutator_core.proofs.Beginnings.{log-ends}
 use Rattle.mutator_core.proofs.Quiet.{in-register}
 use Rattle.mutator_core.proofs.Spots.{spot, clears_unlog}
-use Rattle.racing_world.specs.Logged.{logged_by, logged_in}
+use Rattle.racing_mutator.specs.Logged.{logged_by, logged_in}
 
 -- an event clears an unlog bit or none
 is-clear : (x : Event) → (clears_unlog x ≡ false) ⊎ ((q : ℕ) × (x ≡ e.ClearUnlog q))

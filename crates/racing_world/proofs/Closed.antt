@@ -1,6 +1,6 @@
 -- What the seats of a world say of its end.
 use Rattle.std.proofs.Common.{◌≡◌, ◌⊎◌, IsTrue, inl, inr, ⊎_elim, refl, sym, ◌∙◌, ap, subst, ℕ, zero, suc, ◌+◌, ◌<◌, ◌≤◌, ◌==◌, arith, cond, List, [], ◌∷◌, ◌++◌, length, map}
-use Rattle.std.specs.Prelude.{sum_by, count_by, Option, Some, None}
+use Rattle.std.specs.Prelude.{sum_by, count_by}
 use Rattle.std.specs.List.{Contains, range_with_len}
 use Rattle.std.proofs.Math.Path.{fun_ext}
 use Rattle.std.proofs.lemmas.List.{append-nil}
@@ -31,13 +31,12 @@ use Rattle.mutator_core.specs.Guards.{allowance}
 use Rattle.mutator_core.specs.Closing.{IsBetweenCalls, GivesBack}
 use Rattle.mutator_core.specs.Histories.{history}
 use Rattle.mutator_core.specs.Logs.{AreBetweenCalls, IsListed, IsTaken, IsUntaken, machine_after, heap_after, local_after_log, mutators_after, history_of}
-use Rattle.mutator_core.specs.Tickets.{taken_by, drawn_by, allowed_to, tickets_in, tickets_below, smaller}
+use Rattle.mutator_core.specs.Tickets.{taken_by, tickets_below, smaller}
 use Rattle.mutator_core.proofs.Beginnings.{Ends, log-ends}
-use Rattle.racing_world.proofs.Budgets.{budget-few}
+use Rattle.racing_mutator.proofs.Budgets.{budget-few}
 use Rattle.mutator_core.proofs.EpochEnds.{log-counted, log-seen, log-stopped}
 use Rattle.mutator_core.proofs.GivenBack as back
 use Rattle.mutator_core.proofs.Regions.{history-append, block-owner, owner-lists}
-use Rattle.mutator_core.proofs.Sums.{sum-more}
 use Rattle.mutator_rule.specs.declared.seat.MutatorSeat.{MutatorSeat}
 use Rattle.mutator_rule.specs.declared.views.EpochStart.{EpochStart}
 use Rattle.mutator_rule.specs.declared.views.MutatorView.{MutatorView}
@@ -46,9 +45,9 @@ use Rattle.mutator_rule.specs.Logs.{Agrees, EndsWith}
 use Rattle.mutator_rule.specs.Seats.{known, local_of}
 use Rattle.mutator_rule.proofs.Pushes.{entries-of-others, nothing-more, steps-append}
 use Rattle.racing_world.specs.Calls.{history_at, calls_of, number_of}
-use Rattle.racing_world.specs.Logged.{logged_in}
-use Rattle.racing_world.specs.RacingSeats.{logged_at, holdings, UsesItsBlocks}
-use Rattle.racing_world.proofs.Logged.{logged-append, none-logged}
+use Rattle.racing_mutator.specs.Logged.{logged_in}
+use Rattle.racing_mutator.specs.RacingSeats.{logged_at, holdings, UsesItsBlocks}
+use Rattle.racing_mutator.proofs.Logged.{logged-append, none-logged}
 use Rattle.racing_world.proofs.Cleared.{log-logged}
 use Rattle.racing_world.specs.Closing.{IsSeatAt, EndsEpoch}
 
@@ -58,7 +57,7 @@ pub record IsIdle (p : Epoch) (seat : MutatorSeat) : Type 0 where
   pub stored : (local_of seat).pending ≡ 0
   pub used : UsesItsBlocks p (holdings (local_of seat))
 
-known-at : (seats : List MutatorSeat) (k : ℕ) (seat : MutatorSeat) → IsSeatAt seats k seat → get_elem? (map known seats) k ≡ some (known seat)
+pub known-at : (seats : List MutatorSeat) (k : ℕ) (seat : MutatorSeat) → IsSeatAt seats k seat → get_elem? (map known seats) k ≡ some (known seat)
 known-at [] k seat e = absurd (some-ne-none seat (sym e))
 known-at (x ∷ xs) zero seat e = ap (λ (s : MutatorSeat). some (known s)) (some-injective x seat e)
 known-at (x ∷ xs) (suc k) seat e = known-at xs k seat e
@@ -68,12 +67,12 @@ seat-of [] k v e = absurd (some-ne-none v (sym e))
 seat-of (x ∷ xs) zero v e = (x, refl, some-injective (known x) v e)
 seat-of (x ∷ xs) (suc k) v e = seat-of xs k v e
 
-seat-with : (seats : List MutatorSeat) (m : ℕ) → Contains (map number_of seats) m → (k : ℕ) × (seat : MutatorSeat) × IsSeatAt seats k seat × (number_of seat ≡ m)
+pub seat-with : (seats : List MutatorSeat) (m : ℕ) → Contains (map number_of seats) m → (k : ℕ) × (seat : MutatorSeat) × IsSeatAt seats k seat × (number_of seat ≡ m)
 seat-with [] m known = absurd (let none : known.0 < 0 = known.1 in omega arith)
 seat-with (x ∷ xs) m (zero, within, is) = (0, x, refl, is)
 seat-with (x ∷ xs) m (suc k, within, is) = let rest = seat-with xs m (k, (let n : suc k < suc (length (map number_of xs)) = within in omega arith), is) in (suc rest.0, rest.1, rest.2, rest.3)
 
-first-seat : (seats : List MutatorSeat) → 0 < length seats → (seat : MutatorSeat) × IsSeatAt seats 0 seat
+pub first-seat : (seats : List MutatorSeat) → 0 < length seats → (seat : MutatorSeat) × IsSeatAt seats 0 seat
 first-seat [] few = absurd (omega arith)
 first-seat (x ∷ xs) few = (x, refl)
 

@@ -1,5 +1,5 @@
 -- What an allocation of a seat is to its world.
-use Rattle.std.proofs.Common.{◌≡◌, sym, subst, ℕ, [], ◌∷◌}
+use Rattle.std.proofs.Common.{◌≡◌, sym, subst, ℕ}
 use Rattle.ideal_heap.specs.declared.command.Command.TheVariants as c
 use Rattle.ideal_heap.specs.declared.reply.Reply.TheVariants as r
 use Rattle.sessions.specs.Plans.{Rules}
@@ -8,11 +8,11 @@ use Rattle.mutator_calls.specs.declared.need.Allocated.TheVariants.{Made, Stop}
 use Rattle.mutator_calls.specs.Allocating.{MatchAllocated}
 use Rattle.mutator_rule.specs.declared.views.EpochStart.{EpochStart}
 use Rattle.mutator_rule.specs.Views.{epoch_with}
-use Rattle.racing_world.specs.declared.racing.Racing.{Racing}
+use Rattle.racing_mutator.specs.declared.racing.Racing.{Racing}
 use Rattle.racing_world.specs.declared.world.World.{World}
-use Rattle.racing_world.specs.RacingSeats.{view, local, holdings, epoch_of_racing, IsReady, HasFlags}
-use Rattle.racing_world.specs.Rooms.{HasRooms, UsesItsBlocks}
-use Rattle.racing_world.specs.Searches.{Allocates, Needs}
+use Rattle.racing_mutator.specs.RacingSeats.{view, local, holdings, epoch_of_racing, IsReady, HasFlags}
+use Rattle.racing_rooms.specs.Rooms.{HasRooms, UsesItsBlocks}
+use Rattle.racing_mutator.specs.Searches.{Allocates, Needs}
 use Rattle.racing_world.specs.Answers.{AnswersNew}
 use Rattle.racing_world.proofs.CallsSeen.{enters-one, enters-none}
 
@@ -41,6 +41,7 @@ module _ {P : Type 0} (rules : Rules) (a b : Racing P) (d refs nums : ℕ) where
     small = is.small;
     place = is.place;
     takes = is.takes;
+    overflow = is.overflow;
   }
   answers-new w here ready has rooms uses (Stop need) is = record {
     nothing = enters-none rules w a b here ready has is.takes.searches.makes (uses-then (Stop need) is uses) rooms;
@@ -48,6 +49,7 @@ module _ {P : Type 0} (rules : Rules) (a b : Racing P) (d refs nums : ℕ) where
     births = is.takes.searches.births;
     owned = is.takes.owned;
     granted = is.takes.granted;
+    regions = is.regions;
     made = is.takes.searches.made;
     ticket = is.takes.ticket;
     call = is.call;

@@ -18,10 +18,12 @@ use Rattle.mutator_rule.specs.declared.views.EpochStart.{EpochStart}
 use Rattle.mutator_rule.specs.Views.{epoch_with}
 use Rattle.mutator_rule.specs.Logs.{EndsWith}
 use Rattle.mutator_rule.specs.Seats.{known, local_of, start_of}
-use Rattle.racing_world.specs.RacingSeats.{MayCall, UsesItsBlocks, holdings, logged_at}
+use Rattle.racing_mutator.specs.RacingSeats.{MayCall, UsesItsBlocks, holdings, logged_at}
 use Rattle.racing_world.specs.Calls.{number_of}
 use Rattle.racing_world.specs.Closing.{EndsEpoch, IsSeatAt, mutator_at}
 use Rattle.racing_world.proofs.Begun.{all-at-place}
+use Rattle.racing_world.specs.ClosingNotes.{LeavesRoom}
+use Rattle.racing_world.proofs.RoomLeft.{leaves-room}
 use Rattle.racing_world.proofs.Closed.{IsIdle, code-at, kind-at, order-at, ends-epoch}
 
 -- each block word is one; a block with an owner is of the kind; no word before the block words changed
@@ -74,6 +76,10 @@ module _ {P : Type 0} (rules : Rules) (row : RacingRow P) (seats : List MutatorS
     pub world-ends : EndsEpoch rules (epoch_with rules (start_of row)) seats new (map mutator_at seats)
     world-ends = ends-epoch rules (start_of row) seats words ends idle listed many new (subst (λ (s : HeapState). GivesBack s new) (sym same) gives)
         (λ i less. front i (subst (λ (b : ℕ). i < first b BlockWords) blocks-are less) ∙ ap (λ (s : HeapState). word_at s i) (sym same))
+
+    pub world-room : LeavesRoom rules (epoch_with rules (start_of row)) seats new
+    world-room = leaves-room rules (start_of row) seats words ends listed (λ k seat at. (all-at-place (MayCall rules row) seats k seat calls at).0.own.2) (λ k seat at. (all-at-place (MayCall rules row) seats k seat calls at).3)
+        new (subst (λ (s : HeapState). GivesBack s new) (sym same) gives) (λ i less. front i (subst (λ (b : ℕ). i < first b BlockWords) blocks-are less) ∙ ap (λ (s : HeapState). word_at s i) (sym same))
 
     pub world-lawful : IsLawful new
     world-lawful = (world-ends.stopped ends.ideal ends.epoch.represents).lawful

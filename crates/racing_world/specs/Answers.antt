@@ -1,5 +1,5 @@
 -- What the call that allocates an object promises.
-use Rattle.std.specs.Prelude.{◌≡◌, ℕ, ◌+◌, ◌<◌, ◌≤◌, Some}
+use Rattle.std.specs.Prelude.{◌≡◌, ℕ, ◌+◌, ◌≤◌, Some}
 use Rattle.ideal_heap.specs.declared.command.Command.TheVariants as c
 use Rattle.ideal_heap.specs.declared.reply.Reply.TheVariants as r
 use Rattle.ideal_heap.specs.declared.name.Name.{Name}
@@ -13,8 +13,8 @@ use Rattle.mutator_core.specs.Machine.{next_name}
 use Rattle.mutator_rule.specs.declared.seat.MutatorSeat.{MutatorSeat}
 use Rattle.mutator_rule.specs.Seats.{local_of}
 use Rattle.racing_world.specs.declared.world.World.{World}
-use Rattle.racing_world.specs.NoRoom.{IsCauseFor}
-use Rattle.racing_world.specs.Searches.{PlacesObject, TakesRoom}
+use Rattle.racing_rooms.specs.NoRoom.{regions_at, IsCauseFor}
+use Rattle.racing_mutator.specs.Searches.{PlacesObject, TakesRoom, block_in, KeepsHoleRegion}
 use Rattle.racing_world.specs.Calls.{EntersOnce, EntersNothing, has_raised}
 
 -- how many objects the mutator has allocated
@@ -30,7 +30,8 @@ module _ {P : Type 0} where
     pub births : births_of new ≡ births_of old + 1
     pub small : size_of refs nums ≤ MAX_MEDIUM_WORDS
     pub place : PlacesObject rules old d (size_of refs nums) new
-    pub takes : TakesRoom rules old (size_of refs nums) new
+    pub takes : TakesRoom rules old (size_of refs nums) (block_in rules new d) new
+    pub overflow : KeepsHoleRegion rules old (size_of refs nums) new
 
   -- No object was allocated: the mutator is to stop with this need. The object is large, or there
   -- is no room for it and the mutator's ticket is not below the allowance.
@@ -38,10 +39,11 @@ module _ {P : Type 0} where
       (need : Need) (new : MutatorSeat) : Type 0 where
     pub nothing : EntersNothing rules w old new
     pub raised : has_raised new ≡ has_raised old
-    -- it has the blocks and objects that it had, and its unused ticket
+    -- it has the blocks, regions and objects that it had, and its unused ticket
     pub births : births_of new ≡ births_of old
     pub owned : (local_of new).owned ≡ (local_of old).owned
     pub granted : (local_of new).granted ≡ (local_of old).granted
+    pub regions : regions_at new ≡ regions_at old
     pub made : (local_of new).made ≡ (local_of old).made
     pub ticket : (t : ℕ) → (local_of old).ticket ≡ Some t → (local_of new).ticket ≡ Some t
     pub call : IsNeedOf d refs nums need

@@ -13,7 +13,8 @@ use Rattle.mutator_rule.specs.Views.{epoch_with, entries_by}
 use Rattle.mutator_rule.specs.Logs.{history_seen, own_entries}
 use Rattle.mutator_rule.specs.Seats.{known, local_of, start_of}
 use Rattle.racing_world.specs.declared.world.World.{World}
-use Rattle.racing_world.specs.RacingSeats.{MayCall, holdings}
+use Rattle.racing_mutator.specs.RacingSeats.{MayCall, holdings}
+use Rattle.racing_rooms.specs.NoRoom.{regions_at}
 
 -- the history that the seat has seen: entries of all mutators
 abbrev pub history_at : Rules → MutatorSeat → List Entry
@@ -75,10 +76,11 @@ module _ {P : Type 0} where
         ≡ calls_of rules old ++ entry (number_of old) command reply ∷ []
     pub raised : has_raised new ≡ has_raised old
 
-  -- The same of a command that allocates nothing.
+  -- The same of a command that allocates nothing. The mutator's regions stay, too.
   abbrev pub EntersCommand : Rules → World P → MutatorSeat → Command → Reply → MutatorSeat → Type 0
   EntersCommand rules w old command reply new = EntersOnce rules w old command reply new
       × (holdings (local_of new) ≡ holdings (local_of old))
+      × (regions_at new ≡ regions_at old)
 
   -- A call of the seat entered nothing: others made what it has seen since.
   pub record EntersNothing (rules : Rules) (w : World P) (old new : MutatorSeat) : Type 0 where

@@ -21,7 +21,7 @@ use Rattle.mutator_core.specs.Tickets.{smaller, tickets_below}
 use Rattle.mutator_rule.specs.declared.seat.MutatorSeat.{MutatorSeat}
 use Rattle.mutator_rule.specs.Views.{entries_by}
 use Rattle.mutator_rule.specs.Seats.{local_of}
-use Rattle.racing_world.specs.RacingSeats.{logged_at}
+use Rattle.racing_mutator.specs.RacingSeats.{logged_at}
 use Rattle.racing_world.specs.Calls.{history_at, calls_of, number_of, stop_seen, has_raised}
 
 -- the mutator of a seat, as it stands

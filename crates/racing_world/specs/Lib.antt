@@ -1,15 +1,5 @@
-pub mod Logged
-pub mod Rooms
-pub mod RacingSeats
-pub mod Barriers
-pub mod NoRoom
-pub mod SeatLaws
-pub mod Births
-pub mod Looks
-pub mod OwnHoles
-pub mod Searches
-pub mod Holes
 pub mod Calls
 pub mod Closing
+pub mod ClosingNotes
 pub mod GivingBack
 pub mod Answers

@@ -6,18 +6,18 @@ ghost use Rattle.ideal_heap.specs.declared.command.Command.TheVariants as comman
 ghost use Rattle.object_model.specs.Graphs.{numbers_of};
 ghost use Rattle.mutator_calls.specs.Stopping.{stop_of};
 ghost use Rattle.mutator_rule.specs.Seats.{local_of};
-ghost use Rattle.racing_world.specs.RacingSeats.{MayCall, holdings};
-ghost use Rattle.racing_world.specs.NoRoom.{regions_at};
-ghost use Rattle.racing_world.specs.Barriers.{LogsWhereNeeded};
+ghost use Rattle.racing_mutator.specs.RacingSeats.{MayCall, holdings};
+ghost use Rattle.racing_rooms.specs.NoRoom.{regions_at};
+ghost use Rattle.racing_mutator.specs.Barriers.{LogsWhereNeeded};
 ghost use Rattle.racing_world.specs.Calls.{EntersCommand, EntersNothing, epoch_of_world, number_of, stop_seen, has_raised};
 
-use crate::racing::Racing;
 use crate::world::World;
 use ideal_heap::{GLOBALS, REGISTERS, Reply};
 use mutator_calls as calls;
 use mutator_calls::Polled;
 use mutator_rule::MutatorSeat;
 use plan_api::Plan;
+use racing_mutator::Racing;
 
 impl<P: Plan> World<P> {
     /// Whether a stop is raised, and by which mutator: one of this world, and the caller only if it

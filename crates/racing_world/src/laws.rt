@@ -21,9 +21,9 @@ ghost use Rattle.mutator_rule.specs.Seats.{local_of};
 ghost use Rattle.mutator_rule.specs.declared.seat.MutatorSeat.{MutatorSeat};
 ghost use Rattle.mutator_calls.specs.declared.need.NeedCause.{NeedCause};
 ghost use Rattle.racing_world.specs.declared.world.World.{World};
-ghost use Rattle.racing_world.specs.RacingSeats.{MayCall, holdings};
+ghost use Rattle.racing_mutator.specs.RacingSeats.{MayCall, holdings};
 ghost use Rattle.racing_world.specs.Calls.{EntersNothing};
-ghost use Rattle.racing_world.specs.NoRoom.{regions_at, IsCauseFor};
+ghost use Rattle.racing_rooms.specs.NoRoom.{regions_at, IsCauseFor};
 
 use plan_api::Plan;
 

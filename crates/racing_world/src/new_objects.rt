@@ -1,21 +1,21 @@
 //! The call that allocates an object.
 
 ghost use Rattle.std.specs.Prelude.{◌+◌, ◌<◌, ◌≤◌, ◌^◌};
-ghost use Rattle.racing_world.specs.RacingSeats.{MayCall};
+ghost use Rattle.racing_mutator.specs.RacingSeats.{MayCall};
 ghost use Rattle.racing_world.specs.Answers.{AnswersNew, births_of};
 
-use crate::racing::Racing;
 use crate::world::World;
 use ideal_heap::{MAX_NUMS, MAX_REFS, REGISTERS};
 use mutator_calls::Allocated;
 use mutator_rule::MutatorSeat;
 use object_model::Shape;
 use plan_api::Plan;
+use racing_mutator::Racing;
 
 impl<P: Plan> World<P> {
     /// Allocates an object with `refs` nil references and `nums` zeros: in a region of the mutator
     /// if one has room, else in a hole, of a block of its own or one that nobody owns, else in the
-    /// first Free block, which it takes with a ticket. In overflow allocation a Free block comes
+    /// lowest Free block, which it takes with a ticket. In overflow allocation a Free block comes
     /// before a hole. Register `d` holds the object. Its name is the mutator's next. Others see it
     /// when its start bit is set, after its words.
     ///

@@ -7,21 +7,24 @@ ghost use Rattle.object_model.specs.Graphs.{Represents, numbers_of};
 ghost use Rattle.sessions.specs.Collecting.{Remembers};
 ghost use Rattle.sessions.specs.Fitting.{allowance_of};
 ghost use Rattle.mutator_core.specs.Guards.{allowance};
-ghost use Rattle.block_regions.specs.Notes.{FlagsCover};
+ghost use Rattle.block_regions.specs.Notes.{AreNotes, FlagsCover};
 ghost use Rattle.heap_users.specs.Users.{mutator_state};
 ghost use Rattle.heap_users.specs.Beginnings.{MayUse, epoch_of};
-ghost use Rattle.racing_world.specs.RacingSeats.{MayCall};
+ghost use Rattle.racing_mutator.specs.RacingSeats.{MayCall};
 ghost use Rattle.racing_world.specs.Calls.{epoch_of_world, number_of, IsFresh};
 ghost use Rattle.racing_world.specs.Closing.{EndsEpoch, IsSeatAt, mutator_at};
+ghost use Rattle.racing_world.specs.ClosingNotes.{JoinsNotes, LeavesRoom};
 
+use crate::closing_notes::{drawn_below, join_notes, note_each, unused_tickets};
 use crate::giving_back::give_back;
-use crate::plan_rules::PlanRules;
+use block_regions::BlockNotes;
 use heap_layout::{BUDGET_WORD, STOP_WORD};
 use ideal_heap::MAX_MUTATORS;
 use mutator_calls::Mutator;
 use mutator_rule::{MutatorSeat, RacingRow};
 use object_model::{Heap, Row};
 use plan_api::Plan;
+use racing_mutator::PlanRules;
 use std::alloc::{AllocError, Global};
 
 /// A heap that mutators share. Each has a seat, and calls through a `&` to the world.
@@ -73,7 +76,7 @@ fn join_flags(flags: &mut Vec<bool>, seats: &Vec<MutatorSeat>)
 impl<P: Plan> World<P> {
     /// Begins an epoch: no stop is raised, no ticket is drawn, and no block has an owner. Each
     /// mutator gets a seat, in the order of the list. Copies no word of the heap, and reads the
-    /// block words, for the allowance.
+    /// block words, to count them.
     ///
     /// Fails if memory runs out. The heap and the mutators are lost then.
     pub fn begin(
@@ -103,7 +106,46 @@ impl<P: Plan> World<P> {
             → FlagsCover P.rules (heap_state heap) flags
             → FlagsCover P.rules (epoch_of_world P.rules r.0).before flags) }
     {
-        let allowance = P::allowance(&heap);
+        let notes = BlockNotes::new(alloc, &heap)?;
+        World::begin_with(alloc, heap, mutators, &notes)
+    }
+
+    /// Begins an epoch as `begin` does, with what is known of the blocks: each seat notes it. Reads
+    /// no word of the heap.
+    ///
+    /// Fails if memory runs out. The heap and the mutators are lost then.
+    pub fn begin_with(
+        alloc: Global,
+        heap: Heap,
+        mutators: Vec<Mutator>,
+        notes: &BlockNotes,
+    ) -> Result<(World<P>, Vec<MutatorSeat>), AllocError>
+        requires some { 0 < length mutators.items }
+        requires few { length mutators.items ≤ MAX_MUTATORS }
+        requires users { MayUse (heap_state heap) (map mutator_state mutators.items) }
+        requires remembers { Remembers P.rules (heap_state heap) }
+        requires notes { AreNotes P.rules.fill (heap_state heap) notes.now }
+        ensures epoch { IfOk result (λ r. epoch_of_world P.rules r.0
+            ≡ epoch_of P.rules (heap_state heap) (map mutator_state mutators.items)) }
+        ensures allowance { IfOk result (λ r. allowance (epoch_of_world P.rules r.0)
+            ≡ allowance_of P.rules.reserve (heap_state heap)) }
+        ensures seats { IfOk result (λ r. All (MayCall P.rules r.0.row) r.1.items) }
+        ensures numbers { IfOk result (λ r. map number_of r.1.items
+            ≡ numbers_of (map mutator_state mutators.items)) }
+        ensures mutators { IfOk result (λ r. map mutator_at r.1.items
+            ≡ map mutator_state mutators.items) }
+        ensures fresh { IfOk result (λ r. All (IsFresh P.rules) r.1.items) }
+        ensures represents { IfOk result (λ r. (i : IdealHeap)
+            → Represents (heap_state heap) (map mutator_state mutators.items) i
+            → Represents (epoch_of_world P.rules r.0).before
+            (epoch_of_world P.rules r.0).mutators i) }
+        ensures covers { IfOk result (λ r. (flags : List Bool)
+            → FlagsCover P.rules (heap_state heap) flags
+            → FlagsCover P.rules (epoch_of_world P.rules r.0).before flags) }
+        ensures noted { IfOk result (λ r.
+            All (λ seat. seat.notes.blocks.items ≡ notes.now.notes.items) r.1.items) }
+    {
+        let allowance = notes.counts.allowance(P::reserve());
         let mut row = heap.into_row();
         row.words.set(STOP_WORD, 0);
         row.words.set(BUDGET_WORD, 0);
@@ -113,10 +155,18 @@ impl<P: Plan> World<P> {
             number,
             base,
         } = row;
-        let (row, seats) = RacingRow::begin(
+        let (row, mut seats) = RacingRow::begin(
             alloc, words, layout, number, base, &mutators, allowance,
         )?;
+        note_each(&mut seats, &notes.notes, notes.counts.blocks);
         Ok((World { row }, seats))
+    }
+
+    /// The row that the mutators share.
+    pub fn row(&self) -> &RacingRow<PlanRules<P>>
+        ensures { result.now ≡ self.now.row }
+    {
+        &self.row
     }
 
     /// Ends the epoch, given the seats of all mutators in the order of `begin`: each block loses
@@ -133,8 +183,10 @@ impl<P: Plan> World<P> {
         requires calls { All (MayCall P.rules self.row) seats.items }
         requires all { map number_of seats.items
             ≡ numbers_of (epoch_of_world P.rules self).mutators }
-        ensures { IfOk result (λ r. EndsEpoch P.rules (epoch_of_world P.rules self) seats.items
-            (heap_state r.0) (map mutator_state r.1.items)) }
+        ensures ends { IfOk result (λ r. EndsEpoch P.rules (epoch_of_world P.rules self)
+            seats.items (heap_state r.0) (map mutator_state r.1.items)) }
+        ensures room { IfOk result (λ r. LeavesRoom P.rules (epoch_of_world P.rules self)
+            seats.items (heap_state r.0)) }
     {
         let mutators = mutators_of(alloc, &seats)?;
         let layout = self.row.layout();
@@ -152,28 +204,51 @@ impl<P: Plan> World<P> {
         Ok((Heap::from_row(row), mutators))
     }
 
-    /// Ends the epoch as `close` does. To the flags of the epoch's beginning, one for each block,
-    /// it adds those of all seats: a block whose flag is not set has no logged object.
+    /// Ends the epoch as `close` does, and returns what is known of the blocks for the next one:
+    /// what was known as it began, and what the seats noted. Looks at no block for that.
     ///
     /// Fails if memory runs out. The heap is lost then.
     pub fn close_with(
         self,
         alloc: Global,
         seats: Vec<MutatorSeat>,
-        flags: Vec<bool>,
-    ) -> Result<(Heap, Vec<Mutator>, Vec<bool>), AllocError>
+        notes: BlockNotes,
+    ) -> Result<(Heap, Vec<Mutator>, BlockNotes), AllocError>
         requires some { 0 < length seats.items }
         requires calls { All (MayCall P.rules self.row) seats.items }
         requires all { map number_of seats.items
             ≡ numbers_of (epoch_of_world P.rules self).mutators }
-        requires flags { FlagsCover P.rules (epoch_of_world P.rules self).before flags.items }
+        requires notes { AreNotes P.rules.fill (epoch_of_world P.rules self).before notes }
+        requires flags { FlagsCover P.rules (epoch_of_world P.rules self).before
+            notes.flags.items }
         ensures ends { IfOk result (λ r. EndsEpoch P.rules (epoch_of_world P.rules self)
             seats.items (heap_state r.0) (map mutator_state r.1.items)) }
-        ensures flags { IfOk result (λ r. FlagsCover P.rules (heap_state r.0) r.2.items) }
+        ensures notes { IfOk result (λ r. AreNotes P.rules.fill (heap_state r.0) r.2) }
+        ensures flags { IfOk result (λ r. FlagsCover P.rules (heap_state r.0)
+            r.2.flags.items) }
+        ensures joins { IfOk result (λ r. JoinsNotes P.rules.fill seats.items notes.notes.items
+            r.2.notes.items) }
     {
-        let mut flags = flags;
+        let BlockNotes {
+            mut counts,
+            mut notes,
+            owned,
+            mut flags,
+        } = notes;
         join_flags(&mut flags, &seats);
+        join_notes(&mut notes, counts.blocks, &seats, P::alloc_kind());
+        let allowance = counts.allowance(P::reserve());
+        let unused = unused_tickets(&seats, allowance);
         let (heap, mutators) = self.close(alloc, seats)?;
-        Ok((heap, mutators, flags))
+        // The Free blocks taken are the tickets drawn below the allowance but for the unused ones.
+        let drawn = drawn_below(heap.words().get(BUDGET_WORD), allowance);
+        counts.free = counts.free + unused - drawn;
+        let notes = BlockNotes {
+            counts,
+            notes,
+            owned,
+            flags,
+        };
+        Ok((heap, mutators, notes))
     }
 }

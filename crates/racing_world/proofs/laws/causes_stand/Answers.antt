@@ -1,4 +1,4 @@
-use Rattle.racing_world.proofs.RoomLaws.{cause-stays}
+use Rattle.racing_world.proofs.CausesStay.{cause-stays}
 use Rattle.racing_world.proofs.laws.causes_stand.Goals as goal
 
 pub returns : goal.returns

@@ -8,10 +8,11 @@ use Rattle.mutator_core.specs.Machine.{Epoch}
 use Rattle.mutator_core.specs.Closing.{GivesBack}
 use Rattle.mutator_rule.specs.declared.seat.MutatorSeat.{MutatorSeat}
 use Rattle.mutator_rule.specs.Seats.{IsSeatOf}
-use Rattle.racing_world.specs.RacingSeats.{MayCall}
+use Rattle.racing_mutator.specs.RacingSeats.{MayCall}
 use Rattle.racing_world.specs.Calls.{epoch_of_world}
 use Rattle.racing_world.specs.Closing.{EndsEpoch, mutator_at}
-use Rattle.racing_world.proofs.WorldEnds.{HasCodes, HasKinds, FrontStays, handed-same, handed-order, handed-codes, handed-kinds, world-ends, world-lawful}
+use Rattle.racing_world.specs.ClosingNotes.{LeavesRoom}
+use Rattle.racing_world.proofs.WorldEnds.{HasCodes, HasKinds, FrontStays, handed-same, handed-order, handed-codes, handed-kinds, world-ends, world-lawful, world-room}
 use Rattle.racing_world.proofs.world.World.close.Goals as goal
 
 pub close-words-requires-clause-own : goal.close-words-requires-clause-own
@@ -36,8 +37,8 @@ from_row-requires g c =
     (state_of c.give_back.new.row) (subst (λ (s : HeapState). GivesBack s (state_of c.give_back.new.row)) (sym is) c.give_back.ensures.gives)
     (subst (λ (s : HeapState). FrontStays s (state_of c.give_back.new.row)) (sym is) c.give_back.ensures.front)
 
-pub returns : goal.returns
-returns g c =
+pub returns-clause-ends : goal.returns-clause-ends
+returns-clause-ends g c =
     let p : Epoch = epoch_of_world g.P.Plan.rules c.args.self in
     let is = handed-same c.close-words.result c.args.self.row _ _ _ c.layout-layout.ensures c.number-number.ensures c.base-base.ensures in
     subst (λ (ms : List MutatorState). EndsEpoch g.P.Plan.rules p c.args.seats.items (heap_state c.from_row.result) ms) (sym c.in_ok-mutators.ensures)
@@ -45,3 +46,11 @@ returns g c =
     (world-ends g.P.Plan.rules c.args.self.row c.args.seats.items c.close-words.result c.close-words.ensures c.requires.calls c.requires.all c.requires.some
     (state_of c.give_back.new.row) (subst (λ (s : HeapState). GivesBack s (state_of c.give_back.new.row)) (sym is) c.give_back.ensures.gives)
     (subst (λ (s : HeapState). FrontStays s (state_of c.give_back.new.row)) (sym is) c.give_back.ensures.front)))
+
+pub returns-clause-room : goal.returns-clause-room
+returns-clause-room g c =
+    let is = handed-same c.close-words.result c.args.self.row _ _ _ c.layout-layout.ensures c.number-number.ensures c.base-base.ensures in
+    subst (LeavesRoom g.P.Plan.rules (epoch_of_world g.P.Plan.rules c.args.self) c.args.seats.items) (sym c.from_row.ensures)
+    (world-room g.P.Plan.rules c.args.self.row c.args.seats.items c.close-words.result c.close-words.ensures c.requires.calls c.requires.all c.requires.some
+    (state_of c.give_back.new.row) (subst (λ (s : HeapState). GivesBack s (state_of c.give_back.new.row)) (sym is) c.give_back.ensures.gives)
+    (subst (λ (s : HeapState). FrontStays s (state_of c.give_back.new.row)) (sym is) c.give_back.ensures.front))

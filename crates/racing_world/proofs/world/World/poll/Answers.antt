@@ -3,10 +3,10 @@ use Rattle.mutator_calls.specs.Stopping.{stop_of}
 use Rattle.mutator_rule.specs.declared.seat.MutatorSeat.{MutatorSeat}
 use Rattle.racing_world.specs.Calls.{EntersNothing, has_raised, stop_seen}
 use Rattle.mutator_rule.specs.Seats.{local_of}
-use Rattle.racing_world.specs.RacingSeats.{holdings}
+use Rattle.racing_mutator.specs.RacingSeats.{holdings}
 use Rattle.local_allocators.specs.NotedSeats.{regions_in}
 use Rattle.mutator_rule.specs.declared.seat_notes.SeatNotes.{SeatNotes}
-use Rattle.racing_world.specs.NoRoom.{regions_at}
+use Rattle.racing_rooms.specs.NoRoom.{regions_at}
 use Rattle.racing_world.proofs.CallsSeen.{enters-nothing, raised-known, raised-own}
 use Rattle.racing_world.proofs.world.World.poll.Goals as goal
 

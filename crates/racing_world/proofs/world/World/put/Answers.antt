@@ -1,9 +1,9 @@
 use Rattle.std.proofs.Common.{◌≡◌, refl, subst, rules}
 use Rattle.ideal_heap.specs.declared.command.Command.TheVariants as command
 use Rattle.mutator_rule.specs.declared.seat.MutatorSeat.{MutatorSeat}
-use Rattle.racing_world.specs.Barriers.{LogsWhereNeeded}
+use Rattle.racing_mutator.specs.Barriers.{LogsWhereNeeded}
 use Rattle.racing_world.specs.Calls.{EntersCommand}
-use Rattle.racing_world.proofs.Barrier.{put-logs}
+use Rattle.racing_mutator.proofs.Barrier.{put-logs}
 use Rattle.racing_world.proofs.CallsSeen.{enters-command}
 use Rattle.racing_world.proofs.world.World.put.Goals as goal
 

@@ -1,12 +1,12 @@
 use Rattle.std.proofs.Common.{◌≡◌, true, refl, ap, ◌∙◌, subst, rules}
 use Rattle.mutator_rule.specs.declared.seat.MutatorSeat.{MutatorSeat}
 use Rattle.racing_world.specs.Calls.{EntersNothing, has_raised}
-use Rattle.racing_world.proofs.Entered.{or-true}
+use Rattle.racing_mutator.proofs.Entered.{or-true}
 use Rattle.mutator_rule.specs.Seats.{local_of}
-use Rattle.racing_world.specs.RacingSeats.{holdings}
+use Rattle.racing_mutator.specs.RacingSeats.{holdings}
 use Rattle.local_allocators.specs.NotedSeats.{regions_in}
 use Rattle.mutator_rule.specs.declared.seat_notes.SeatNotes.{SeatNotes}
-use Rattle.racing_world.specs.NoRoom.{regions_at}
+use Rattle.racing_rooms.specs.NoRoom.{regions_at}
 use Rattle.racing_world.proofs.CallsSeen.{enters-nothing}
 use Rattle.racing_world.proofs.world.World.raise.Goals as goal
 

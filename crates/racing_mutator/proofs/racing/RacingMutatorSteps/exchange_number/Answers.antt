@@ -1,0 +1,6 @@
+use Rattle.std.proofs.Common.{refl, rules}
+use Rattle.racing_mutator.proofs.Entered.{step-does}
+use Rattle.racing_mutator.proofs.racing.RacingMutatorSteps.exchange_number.Goals as goal
+
+pub returns-clause-goes : goal.returns-clause-goes
+returns-clause-goes g c = step-does g.P.Plan.rules _ _ _ _ (search rules) (search rules) c.exchange-found.ensures.notes refl c.exchange-found.ensures.step _ refl refl refl refl refl refl

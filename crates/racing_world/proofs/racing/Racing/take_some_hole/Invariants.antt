@@ -1,9 +1,0 @@
-use Rattle.std.specs.Prelude.{ℕ, ◌<◌}
-use Rattle.racing_world.specs.RacingSeats.{IsReady}
-use Rattle.racing_world.specs.Rooms.{HasRooms}
-use Rattle.racing_world.specs.Holes.{OnlySearches, Lacks}
-use Rattle.racing_world.proofs.racing.Racing.take_some_hole.Given as goal
-
-abbrev pub invariant-loop-block : goal.invariant-loop-block
-invariant-loop-block g l = IsReady g.P.Plan.rules l.self × HasRooms g.P.Plan.rules l.self.seat.now × OnlySearches g.P.Plan.rules l.fn.self l.self
-    × ((k : ℕ) → k < l.block → Lacks g.P.Plan.rules l.self k l.size)

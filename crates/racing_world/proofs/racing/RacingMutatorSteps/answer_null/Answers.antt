@@ -1,6 +1,0 @@
-use Rattle.std.proofs.Common.{rules}
-use Rattle.racing_world.proofs.Entered.{null-does}
-use Rattle.racing_world.proofs.racing.RacingMutatorSteps.answer_null.Goals as goal
-
-pub returns-clause-goes : goal.returns-clause-goes
-returns-clause-goes g c = null-does g.P.Plan.rules _ _ _ _ (search rules) (search rules) c.look.ensures.notes c.look.ensures.step c.requires.none

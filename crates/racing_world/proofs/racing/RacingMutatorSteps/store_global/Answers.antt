@@ -1,6 +1,0 @@
-use Rattle.std.proofs.Common.{refl, rules}
-use Rattle.racing_world.proofs.Entered.{step-does}
-use Rattle.racing_world.proofs.racing.RacingMutatorSteps.store_global.Goals as goal
-
-pub returns-clause-goes : goal.returns-clause-goes
-returns-clause-goes g c = step-does g.P.Plan.rules _ _ _ _ (search rules) (search rules) c.put.ensures.notes refl c.put.ensures.step.1 _ refl refl refl refl refl refl
