@@ -45,7 +45,7 @@ pub fn all_registers(alloc: Global, mutators: &[Mutator]) -> Result<Vec<u32>, Al
 
 /// Counts the blocks of a heap that has as many as the notes. Of their holes nothing is known then;
 /// the flags stay. Takes no memory, and reads each block word once.
-pub(crate) fn forget_holes(notes: &mut BlockNotes, heap: &Heap)
+fn forget_holes(notes: &mut BlockNotes, heap: &Heap)
     requires blocks { length notes.old.notes.items ≡ (heap_state heap.now).blocks }
     requires owned { notes.old.owned.items ≡ [] }
     requires room { (heap_state heap.now).blocks ≤ vec_capacity notes.old.owned }

@@ -1,9 +1,8 @@
 //! A heap between two epochs: its mutators, what is known of its blocks, and its collections.
 
-ghost use Rattle.std.specs.Prelude.{◌≡◌, ◌≤◌, [], length, map, vec_capacity, IfOk};
-ghost use Rattle.managed_heap.specs.Prelude.{Setting, Moment, first_moment, heap_state, mutator_state, parts_of, AreNotes, IsStopped, HeapStandsAt};
+ghost use Rattle.std.specs.Prelude.{◌≡◌, ◌≤◌, length, map, IfOk};
+ghost use Rattle.managed_heap.specs.Prelude.{Setting, Moment, first_moment, heap_state, mutator_state, parts_of, IsStopped, HeapStandsAt};
 
-use crate::collect::forget_holes;
 use collector::MAX_WORKERS;
 use heap_layout::Layout;
 use ideal_heap::{MAX_MUTATORS, REGISTERS};
@@ -103,21 +102,6 @@ impl<P: Plan> StoppedHeap<P> {
             workers: parts.workers,
             plan: PhantomData,
         }
-    }
-
-    /// A stopped heap of its parts after an epoch in which flags of blocks were kept, and no notes
-    /// on their holes: the blocks are counted, and nothing else is known of them. Takes no memory.
-    pub fn from_flagged_parts(alloc: Global, parts: Parts) -> StoppedHeap<P>
-        requires blocks { length parts.notes.notes.items ≡ (heap_state parts.heap).blocks }
-        requires owned { parts.notes.owned.items ≡ [] }
-        requires room { (heap_state parts.heap).blocks ≤ vec_capacity parts.notes.owned }
-        ensures same { parts_of result ≡ record parts { notes = result.notes } }
-        ensures flags { result.notes.flags ≡ parts.notes.flags }
-        ensures notes { AreNotes P.rules.fill (heap_state result.heap) result.notes }
-    {
-        let mut parts = parts;
-        forget_holes(&mut parts.notes, &parts.heap);
-        StoppedHeap::from_parts(alloc, parts)
     }
 
     /// Its parts.

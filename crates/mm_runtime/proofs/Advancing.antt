@@ -5,7 +5,7 @@ use Rattle.std.specs.List.{AllByRecursion}
 use Rattle.ideal_heap.specs.Runs.{of_mutator, commands_of, trace_of, IsMutator}
 use Rattle.sessions.specs.Plans.{Rules}
 use Rattle.sessions.specs.Sessions as sessions
-use Rattle.sessions.specs.Sessions.{Setting, Moment, RunsPart, CollectsFor, ServesAll, Meets, IsEpoch, is_at_gc, is_at_need, next_in, traced_mutators}
+use Rattle.sessions.specs.Sessions.{Setting, Moment, CollectsFor, ServesAll, Meets, IsEpoch, is_at_gc, is_at_need, next_in, traced_mutators}
 use Rattle.sessions.proofs.Orders as orders
 use Rattle.sessions.proofs.GrowingHistories as growing
 use Rattle.block_regions.proofs.Lists.{get-some, get-below}

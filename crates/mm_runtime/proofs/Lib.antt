@@ -21,6 +21,7 @@ pub mod Oks
 pub mod OneReplied
 pub mod OneReply
 pub mod Ordered
+pub mod PaceKept
 pub mod PartEnds
 pub mod Picked
 pub mod PolledStops

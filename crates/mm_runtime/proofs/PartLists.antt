@@ -1,19 +1,18 @@
 -- Parts of an epoch, with their seats and traces.
-use Rattle.std.proofs.Common.{◌≡◌, refl, sym, ◌∙◌, ap, subst, ℕ, zero, suc, ◌+◌, ◌<◌, ◌≤◌, arith, List, [], ◌∷◌, ◌++◌, map, take, drop, length, append_assoc}
+use Rattle.std.proofs.Common.{◌≡◌, refl, sym, ◌∙◌, ap, subst, ℕ, zero, suc, ◌+◌, ◌<◌, arith, List, [], ◌∷◌, ◌++◌, map, take, drop, length, append_assoc}
 use Rattle.std.specs.Prelude.{Option, Some, None, All, slice_get, slice_index_or, unwrap_or}
 use Rattle.std.proofs.lemmas.List.{length-map}
 use Rattle.std.proofs.lemmas.List.Elements.{All-from_get_or}
 use Rattle.std.proofs.lemmas.Option.{slice_get_within, slice_get-get_or, get_or_from_slice_get}
 use mathlib.Core.Option.{some, some-injective, some-ne-none}
-use lib.ListN.{get_elem?, get_or}
+use lib.ListN.{get_or}
 use Rattle.mutator_rule.specs.declared.seat.MutatorSeat.{MutatorSeat}
 use Rattle.racing_world.specs.Closing.{IsSeatAt}
-use Rattle.block_regions.proofs.Lists.{get-some, get-map, one-element}
-use Rattle.mm_runtime.specs.declared.progress.Progress.{Progress}
+use Rattle.block_regions.proofs.Lists.{get-map, one-element}
 use Rattle.mm_runtime.specs.declared.progress.PartEnd.{PartEnd}
 use Rattle.mm_runtime.specs.declared.progress.PartEnd.TheVariants as end
 use Rattle.mm_runtime.specs.declared.seat_part.Part.{Part}
-use Rattle.mm_runtime.specs.OpenEpochs.{end_of, seat_of, trace_in}
+use Rattle.mm_runtime.specs.OpenEpochs.{end_of, seat_of}
 
 -- what holds of all holds of the one at a place, and the other way round
 pub all-get : {A : Type 0} (Q : A → Type 0) (xs : List A) (k : ℕ) (x : A) → All Q xs → slice_get xs k ≡ Some x → Q x

@@ -1,7 +1,6 @@
 -- The parts of an epoch after some were run.
 use Rattle.std.proofs.Common.{◌≡◌, refl, sym, ◌∙◌, ap, subst, ℕ, zero, suc, ◌+◌, ◌<◌, ◌≤◌, inl, inr, arith, List, [], ◌∷◌, ◌++◌, take, drop, length, length-append, length-set}
-use Rattle.std.specs.Prelude.{Some, None, All, slice_get, slice_index_or, slice_set}
-use Rattle.std.proofs.lemmas.Option.{get_or_from_slice_get}
+use Rattle.std.specs.Prelude.{Some, None, All, slice_get, slice_set}
 use Rattle.std.proofs.lemmas.Bool.{cases_eq}
 use Rattle.sessions.specs.Plans.{Rules}
 use Rattle.racing_world.specs.declared.world.World.{World}
@@ -94,12 +93,3 @@ module _ {P : Type 0} (rules : Rules) (w : World P) where
   ran-lent old new lent n same count ran =
       let all : RunsAll rules w old new = subst (λ (ps : List Part). RunsAll rules w ps new) same ran in
       subst (λ (ps : List Part). RunsAll rules w old ps) (sym (written-back new old n all.count count)) all
-
-  pub ran-each : (old new : List Part) → length new ≡ length old → ((k : ℕ) (d : Part) → k < length old → RunsToEnd rules w (slice_index_or old k d) (slice_index_or new k d)) → RunsAll rules w old new
-  ran-each old new count each = record {
-    count = count;
-    each = λ k p q was is.
-        let ran = each k p (get-below old k p was) in
-        subst (λ (x : Part). RunsToEnd rules w x q) (get_or_from_slice_get old k p p was)
-        (subst (λ (y : Part). RunsToEnd rules w (slice_index_or old k p) y) (get_or_from_slice_get new k q p is) ran);
-  }

@@ -1,18 +1,17 @@
 -- A part that is run to its end.
-use Rattle.std.proofs.Common.{◌≡◌, refl, sym, ◌∙◌, ap, subst, ℕ, ◌+◌, ◌<◌, ◌≤◌, List, ◌++◌, length}
+use Rattle.std.proofs.Common.{◌≡◌, refl, sym, ◌∙◌, ap, subst, ◌+◌, ◌++◌}
 use Rattle.std.specs.Prelude.{Option, Some, None, IfNone, IfSome}
 use Rattle.ideal_heap.specs.declared.command.Command.{Command}
 use Rattle.mutator_rule.specs.declared.seat.MutatorSeat.{MutatorSeat}
 use Rattle.racing_world.specs.declared.world.World.{World}
-use Rattle.racing_world.specs.Calls.{IsFresh, calls_of, number_of, has_raised}
+use Rattle.racing_world.specs.Calls.{IsFresh, calls_of, has_raised}
 use Rattle.sessions.specs.Plans.{Rules}
 use Rattle.mm_runtime.specs.declared.progress.Progress.{Progress}
 use Rattle.mm_runtime.specs.declared.progress.PartEnd.{PartEnd}
 use Rattle.mm_runtime.specs.declared.seat_part.Part.{Part}
-use Rattle.mm_runtime.specs.Managers.{next_in_trace, IsProgress}
 use Rattle.mm_runtime.specs.Parts.{RepliesGrow, raises_stop}
-use Rattle.mm_runtime.specs.SeatParts.{HasFewBirths, IsPartOf, RunsPartOf, RunsSeat, SeatEndsFor, IsEndOf}
-use Rattle.mm_runtime.specs.OpenEpochs.{RepliesSince, RunsToEnd}
+use Rattle.mm_runtime.specs.SeatParts.{IsPartOf, RunsPartOf, SeatEndsFor, IsEndOf}
+use Rattle.mm_runtime.specs.OpenEpochs.{RepliesSince}
 use Rattle.mm_runtime.proofs.ListFacts.{entries-of}
 use Rattle.mm_runtime.proofs.PartsInTurn.{grows-own}
 use Rattle.mm_runtime.proofs.SeatReplies.{runs-none}
@@ -20,17 +19,6 @@ use Rattle.mm_runtime.proofs.SeatReplies.{runs-none}
 module _ {P : Type 0} (rules : Rules) (w : World P) where
   pub part-none : (p : Part) → IsPartOf rules w p → RunsPartOf rules w p p
   part-none p is = record { mutator = refl; runs = runs-none rules w p.seat p.progress is.call }
-
-  pub part-ran : (p : Part) (seat : MutatorSeat) (progress : Progress) (end : PartEnd) → IsPartOf rules w p → RunsSeat rules w p.seat p.progress seat progress → IsProgress progress
-      → HasFewBirths rules w seat progress.replies.items → SeatEndsFor rules seat (next_in_trace progress) end → has_raised seat ≡ raises_stop end
-      → IsPartOf rules w (record { mutator = p.mutator; progress = progress; seat = seat; end = Some end })
-  part-ran p seat progress end is runs order few for raised = record {
-    call = runs.answers.call;
-    number = runs.answers.number ∙ is.number;
-    order = order;
-    births = few;
-    ended = (for, raised);
-  }
 
   -- the replies since the epoch began are those of the calls
   pub since-ran : (old new : Part) → IsPartOf rules w old → RunsPartOf rules w old new → (before : Progress) → RepliesSince rules before old → RepliesSince rules before new

@@ -1,12 +1,11 @@
 -- A mutator allocates at most one object with each of its entries.
-use Rattle.std.proofs.Common.{◌≡◌, ◌≢◌, refl, sym, ◌∙◌, ap, subst, ℕ, ◌+◌, ◌<◌, ◌≤◌, inl, inr, arith, Bool, true, false, nat_eq, eq-eqb, List, [], ◌∷◌, ◌++◌, length, length-append}
+use Rattle.std.proofs.Common.{◌≡◌, refl, ◌∙◌, ap, ℕ, ◌+◌, ◌≤◌, inl, inr, arith, Bool, true, false, nat_eq, eq-eqb, List, [], ◌∷◌, ◌++◌, length, length-append}
 use Rattle.std.specs.Prelude.{Option, Some, None, if◌then◌else◌}
 use Rattle.std.proofs.lemmas.Bool.{cases_eq, cond-true, cond-false, ne_eqb}
-use Rattle.std.proofs.lemmas.List.Elements.{filter-append}
 use Rattle.ideal_heap.specs.declared.command.Command.{Command}
 use Rattle.ideal_heap.specs.declared.command.Command.TheVariants as c
 use Rattle.ideal_heap.specs.declared.reply.Reply.{Reply}
-use Rattle.ideal_heap.specs.Runs.{Entry, entry, of_mutator}
+use Rattle.ideal_heap.specs.Runs.{entry, of_mutator}
 use Rattle.ideal_heap.proofs.OrderLemmas.{of_mutator-all, of_mutator-append}
 use Rattle.mutator_core.specs.declared.state.Event.{Event}
 use Rattle.mutator_core.specs.declared.state.Event.TheVariants as e
@@ -14,12 +13,12 @@ use Rattle.mutator_core.specs.declared.state.Local.{Local}
 use Rattle.mutator_core.specs.declared.state.LogEntry.{LogEntry}
 use Rattle.mutator_core.specs.Machine.{Epoch, Machine, heap_in, next, found, found_code, taken, local_after, first_machine}
 use Rattle.mutator_core.specs.Histories.{after, history, entry_of, entries_with, entries_of, reply_in}
-use Rattle.mutator_core.specs.Logs.{history_of, local_after_log}
+use Rattle.mutator_core.specs.Logs.{local_after_log}
 use Rattle.mutator_rule.specs.declared.seat.MutatorSeat.{MutatorSeat}
 use Rattle.mutator_rule.specs.Seats.{known, local_of}
 use Rattle.mutator_rule.specs.Views.{epoch_with}
 use Rattle.racing_world.specs.declared.world.World.{World}
-use Rattle.racing_world.specs.RacingSeats.{MayCall}
+use Rattle.racing_mutator.specs.RacingSeats.{MayCall}
 use Rattle.racing_world.specs.Calls.{calls_of, number_of}
 use Rattle.sessions.specs.Plans.{Rules}
 use Rattle.stored_replies.specs.Replies.{Replies}

@@ -4,7 +4,7 @@ use Rattle.object_model.specs.Objects.{size_of}
 use Rattle.mutator_calls.specs.declared.need.Need.{Need}
 use Rattle.mutator_calls.specs.Allocating.{IsNeedOf}
 use Rattle.mutator_rule.specs.declared.seat.MutatorSeat.{MutatorSeat}
-use Rattle.racing_world.specs.NoRoom.{IsCauseFor}
+use Rattle.racing_rooms.specs.NoRoom.{IsCauseFor}
 use Rattle.sessions.specs.Plans.{Rules}
 use Rattle.mm_runtime.specs.SeatParts.{IsCauseAt}
 

@@ -1,5 +1,5 @@
 -- The history of an epoch, by the seats that saw it.
-use Rattle.std.proofs.Common.{◌≡◌, ◌≢◌, refl, sym, ◌∙◌, ap, subst, ℕ, zero, suc, ◌+◌, ◌<◌, ◌≤◌, arith, inl, inr, eq-eqb, List, [], ◌∷◌, ◌++◌, map, length}
+use Rattle.std.proofs.Common.{◌≡◌, sym, ◌∙◌, ap, subst, ℕ, ◌+◌, ◌<◌, ◌≤◌, arith, inl, inr, eq-eqb, List, [], ◌∷◌}
 use Rattle.std.specs.Prelude.{Option, Some, None}
 use Rattle.std.specs.List.{AllByRecursion, Contains, range_with_len}
 use Rattle.std.proofs.lemmas.Bool.{cases_eq, ne_eqb}
@@ -13,16 +13,14 @@ use Rattle.object_model.specs.Graphs.{Represents, numbers_of}
 use Rattle.mutator_core.specs.declared.state.LogEntry.{LogEntry}
 use Rattle.mutator_core.specs.Machine.{Epoch, Machine, heap_in, next, first_machine}
 use Rattle.mutator_core.specs.Histories.{IsLog, history, entry_of, entries_with, entries_of, reply_in}
-use Rattle.mutator_core.specs.Logs.{IsEpochLog, history_of}
 use Rattle.mutator_core.proofs.Beginnings.{log-ends}
 use Rattle.mutator_core.proofs.EpochEnds.{log-recorded}
 use Rattle.mutator_core.proofs.Lists.{all-append}
 use Rattle.mutator_rule.specs.declared.seat.MutatorSeat.{MutatorSeat}
-use Rattle.mutator_rule.specs.declared.views.EpochStart.{EpochStart}
 use Rattle.mutator_rule.specs.Seats.{known}
 use Rattle.mutator_rule.specs.Views.{epoch_with}
 use Rattle.racing_world.specs.declared.world.World.{World}
-use Rattle.racing_world.specs.RacingSeats.{MayCall}
+use Rattle.racing_mutator.specs.RacingSeats.{MayCall}
 use Rattle.racing_world.specs.Calls.{epoch_of_world, history_at}
 use Rattle.sessions.specs.Plans.{Rules}
 use Rattle.sessions.specs.Sessions.{IsOfPart}

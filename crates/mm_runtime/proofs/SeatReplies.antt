@@ -1,5 +1,5 @@
 -- What calls at a seat answer, one after another.
-use Rattle.std.proofs.Common.{◌≡◌, refl, sym, ◌∙◌, ap, subst, ℕ, ◌+◌, ◌≤◌, false, List, [], ◌∷◌, ◌++◌, map, take, length, length-append, append_assoc, append-nil}
+use Rattle.std.proofs.Common.{◌≡◌, refl, sym, ◌∙◌, ap, subst, ◌+◌, List, [], ◌∷◌, ◌++◌, map, take, length, length-append, append_assoc, append-nil}
 use Rattle.std.specs.Prelude.{Option, Some, None, MatchOption}
 use Rattle.std.proofs.lemmas.List.{map-append}
 use Rattle.ideal_heap.specs.declared.command.Command.{Command}
@@ -8,7 +8,7 @@ use Rattle.ideal_heap.specs.Runs.{entry}
 use Rattle.mutator_calls.specs.Effects.{Answered}
 use Rattle.mutator_rule.specs.declared.seat.MutatorSeat.{MutatorSeat}
 use Rattle.racing_world.specs.declared.world.World.{World}
-use Rattle.racing_world.specs.RacingSeats.{MayCall}
+use Rattle.racing_mutator.specs.RacingSeats.{MayCall}
 use Rattle.racing_world.specs.Calls.{history_at, calls_of, number_of, has_raised, stop_seen, EntersOnce, EntersNothing}
 use Rattle.sessions.specs.Plans.{Rules}
 use Rattle.stored_replies.specs.Replies.{Replies}

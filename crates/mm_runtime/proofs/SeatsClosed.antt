@@ -1,13 +1,11 @@
 -- The end of an epoch whose mutators ran on threads.
-use Rattle.std.proofs.Common.{◌≡◌, ◌≢◌, refl, sym, ◌∙◌, ap, subst, ℕ, ◌+◌, ◌<◌, ◌≤◌, inr, arith, true, List, [], ◌∷◌, ◌++◌, map, take, length}
-use Rattle.std.specs.Prelude.{Option, Some, None, All, slice_get, sum_by}
+use Rattle.std.proofs.Common.{◌≡◌, refl, sym, ◌∙◌, ap, subst, ℕ, ◌+◌, ◌<◌, ◌≤◌, inr, arith, List, ◌++◌, map, take, length}
+use Rattle.std.specs.Prelude.{Some, None, All, slice_get, sum_by}
 use Rattle.std.specs.List.{AllByRecursion, Contains, range_with_len}
 use Rattle.std.proofs.lemmas.List.{length-map}
-use Rattle.ideal_heap.specs.declared.command.Command.{Command}
-use Rattle.ideal_heap.specs.declared.reply.Reply.{Reply}
 use Rattle.ideal_heap.specs.Ideal as ideal
 use Rattle.ideal_heap.specs.Ideal.{IdealHeap}
-use Rattle.ideal_heap.specs.Runs.{Entry, IsRun, heap_after_run, of_mutator, commands_of, replies_of}
+use Rattle.ideal_heap.specs.Runs.{Entry, IsRun, heap_after_run, of_mutator}
 use Rattle.ideal_heap.proofs.RunLemmas.{after-append, longer}
 use Rattle.object_model.specs.Objects.{HeapState, size_of}
 use Rattle.object_model.specs.declared.shape.TheConstants.{MAX_MEDIUM_WORDS}
@@ -17,7 +15,7 @@ use Rattle.object_model.specs.Lawful.{IsLawful}
 use Rattle.sessions.specs.Plans.{Rules}
 use Rattle.sessions.specs.Fitting.{free_of, allowance_of}
 use Rattle.sessions.specs.Sessions.{Setting, Moment, IsOfPart, ExhaustsAllowance, RunsPart, Stopped, ideal_at, traced_mutators as numbers_in}
-use Rattle.mutator_core.specs.Machine.{Epoch as Began, mutator_of}
+use Rattle.mutator_core.specs.Machine.{Epoch as Began}
 use Rattle.mutator_core.specs.Guards.{allowance}
 use Rattle.mutator_core.specs.Tickets.{smaller, tickets_below}
 use Rattle.mutator_calls.specs.declared.need.Mutator.{Mutator}
@@ -25,16 +23,16 @@ use Rattle.mutator_calls.specs.declared.need.Need.{Need}
 use Rattle.mutator_calls.specs.declared.need.NeedCause.{NeedCause}
 use Rattle.mutator_calls.specs.declared.need.NeedCause.TheVariants.{Large, Budget}
 use Rattle.mutator_rule.specs.declared.seat.MutatorSeat.{MutatorSeat}
-use Rattle.mutator_rule.specs.Seats.{epoch_of_seat, known, local_of}
+use Rattle.mutator_rule.specs.Seats.{known, local_of}
 use Rattle.mutator_rule.specs.Views.{epoch_with}
 use Rattle.heap_users.specs.Beginnings.{epoch_of}
 use Rattle.heap_users.specs.Users.{mutator_state}
 use Rattle.heap_users.proofs.StopWords.{stopped-before}
 use Rattle.heap_users.proofs.Cleared as cleared
-use Rattle.racing_world.specs.NoRoom.{IsCauseFor}
-use Rattle.racing_world.specs.RacingSeats.{MayCall}
+use Rattle.racing_rooms.specs.NoRoom.{IsCauseFor}
+use Rattle.racing_mutator.specs.RacingSeats.{MayCall}
 use Rattle.racing_world.specs.Calls.{epoch_of_world, history_at, calls_of, number_of, has_raised, stop_seen}
-use Rattle.racing_world.specs.Closing.{EndsEpoch, IsSeatAt, mutator_at}
+use Rattle.racing_world.specs.Closing.{EndsEpoch, mutator_at}
 use Rattle.block_regions.specs.Notes.{AreNotes, FlagsCover}
 use Rattle.block_regions.proofs.Lists.{get-some, get-below, get-map, one-element}
 use Rattle.mm_runtime.specs.declared.progress.Progress.{Progress}
@@ -45,13 +43,13 @@ use Rattle.mm_runtime.specs.declared.epochs.Epoch.{Epoch}
 use Rattle.mm_runtime.specs.declared.manager.Manager.{Manager}
 use Rattle.mm_runtime.specs.Managers.{traces_of, next_in_trace, replied, IsProgress, HasReplies, IsInOrder, StandsAt}
 use Rattle.mm_runtime.specs.Parts.{AreGcs, AreNeeds, EndedFor, EndRaisesStop, RepliesGrow, causes, raises_stop}
-use Rattle.mm_runtime.specs.SeatParts.{IsCauseAt, IsPartOf, SeatEndsFor, IsEndOf, births_before}
-use Rattle.mm_runtime.specs.OpenEpochs.{EndsParts, IsEpochOf, end_of, seat_of, trace_in}
+use Rattle.mm_runtime.specs.SeatParts.{SeatEndsFor, IsEndOf}
+use Rattle.mm_runtime.specs.OpenEpochs.{IsEpochOf, end_of, seat_of, trace_in}
 use Rattle.mm_runtime.proofs.Causes as ends-of
 use Rattle.mm_runtime.proofs.Exhausting.{free-cleared, one-most, past-none, past-smaller}
 use Rattle.mm_runtime.proofs.ListFacts.{all-weaker, sum-less}
 use Rattle.mm_runtime.proofs.ManagersStand as standing
-use Rattle.mm_runtime.proofs.PartLists.{all-get, as-many-ends, end-at, map-get, part-at, seat-at}
+use Rattle.mm_runtime.proofs.PartLists.{as-many-ends, end-at, map-get, part-at, seat-at}
 use Rattle.mm_runtime.proofs.SeatBirths.{seat-births}
 use Rattle.mm_runtime.proofs.SeatHistories.{history-each, history-listed, history-run, in-range, of-mutator-twice}
 

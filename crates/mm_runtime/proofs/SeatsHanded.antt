@@ -1,20 +1,19 @@
 -- What an epoch hands to its world as it ends.
-use Rattle.std.proofs.Common.{◌≡◌, refl, sym, ◌∙◌, ap, subst, ℕ, zero, suc, ◌+◌, ◌<◌, ◌≤◌, arith, List, [], ◌∷◌, map, length}
-use Rattle.std.specs.Prelude.{Some, All, slice_get, vec_capacity}
+use Rattle.std.proofs.Common.{◌≡◌, refl, sym, ◌∙◌, ap, subst, ℕ, suc, ◌+◌, arith, List, [], ◌∷◌, map, length}
+use Rattle.std.specs.Prelude.{Some, All, slice_get}
 use Rattle.std.specs.List.{range_with_len}
 use Rattle.std.proofs.lemmas.List.{length-map}
 use Rattle.object_model.specs.Heaps.{heap_state}
-use Rattle.object_model.specs.Objects.{HeapState}
 use Rattle.object_model.specs.Graphs.{numbers_of}
 use Rattle.sessions.specs.Plans.{Rules}
 use Rattle.sessions.specs.Sessions.{Setting, Moment}
 use Rattle.mutator_core.specs.Machine.{Epoch as Began}
-use Rattle.mutator_rule.specs.declared.seat.MutatorSeat.{MutatorSeat}
 use Rattle.heap_users.specs.Beginnings.{without_stop}
 use Rattle.heap_users.proofs.Cleared as cleared
-use Rattle.racing_world.specs.RacingSeats.{MayCall}
+use Rattle.racing_mutator.specs.RacingSeats.{MayCall}
 use Rattle.racing_world.specs.Calls.{epoch_of_world, number_of}
-use Rattle.block_regions.specs.Notes.{FlagsCover}
+use Rattle.block_regions.specs.Notes.{AreNotes, FillsHoles, FlagsCover}
+use Rattle.block_regions.proofs.NoteLemmas.{notes-after}
 use Rattle.block_regions.specs.declared.block_notes.BlockNotes.{BlockNotes}
 use Rattle.mm_runtime.specs.declared.progress.Progress.{Progress}
 use Rattle.mm_runtime.specs.declared.seat_part.Part.{Part}
@@ -54,15 +53,15 @@ module _ {P : Type 0} (rules : Rules) (old : Manager P) (e : Epoch P) (parts : L
         (subst (λ (n : BlockNotes). FlagsCover rules (without_stop (heap_state old.heap.heap)) n.flags.items) (sym is.began.notes)
         (cleared.covers-cleared (heap_state old.heap.heap) old.heap.heap.lawful rules old.heap.notes.flags.items order.heap.flags))
 
-    pub none-owned : e.notes.owned.items ≡ []
-    none-owned = ap (λ (n : BlockNotes). n.owned.items) is.began.notes ∙ order.heap.notes.owned
-
-    module _ (new : HeapState) (size : new.blocks ≡ (epoch_of_world rules e.world).before.blocks) where
-      blocks : new.blocks ≡ (heap_state old.heap.heap).blocks
-      blocks = size ∙ ap (λ (q : Began). q.before.blocks) is.began.epoch
-
-      pub notes-len : length e.notes.notes.items ≡ new.blocks
-      notes-len = ap (λ (n : BlockNotes). length n.notes.items) is.began.notes ∙ order.heap.notes.notes.len ∙ sym blocks
-
-      pub notes-room : new.blocks ≤ vec_capacity e.notes.owned
-      notes-room = subst (λ (n : BlockNotes). new.blocks ≤ vec_capacity n.owned) (sym is.began.notes) (let room = order.heap.notes.room in omega (arith, blocks))
+    pub are-notes : FillsHoles rules.fill → AreNotes rules.fill (epoch_of_world rules e.world).before e.notes
+    are-notes fills =
+        let s = heap_state old.heap.heap in
+        let lawful = old.heap.heap.lawful in
+        subst (λ (q : Began). AreNotes rules.fill q.before e.notes) (sym is.began.epoch)
+        (subst (λ (n : BlockNotes). AreNotes rules.fill (without_stop s) n) (sym is.began.notes) (record {
+          counts = order.heap.notes.counts ∙ sym (cleared.counts-cleared s lawful);
+          notes = notes-after s (without_stop s).words (cleared.keeps-blocks s lawful) rules.fill fills old.heap.notes.notes.items order.heap.notes.notes;
+          unowned = order.heap.notes.unowned;
+          owned = order.heap.notes.owned;
+          room = order.heap.notes.room;
+        }))

@@ -1,5 +1,5 @@
 -- An epoch is opened: each mutator gets a seat.
-use Rattle.std.proofs.Common.{◌≡◌, refl, sym, ◌∙◌, ap, subst, ℕ, ◌+◌, ◌<◌, ◌≤◌, arith, List, [], ◌∷◌, ◌++◌, map, take, length, append-nil}
+use Rattle.std.proofs.Common.{◌≡◌, refl, sym, ◌∙◌, ap, subst, ℕ, ◌+◌, ◌<◌, arith, List, [], ◌++◌, map, take, length, append-nil}
 use Rattle.std.specs.Prelude.{Some, None, All, slice_get}
 use Rattle.std.specs.List.{range_with_len}
 use Rattle.std.proofs.lemmas.List.{length-map}
@@ -7,33 +7,30 @@ use Rattle.std.proofs.lemmas.List.FromFn.{get_or-range_with_len, length-range_wi
 use Rattle.std.proofs.lemmas.Option.{slice_get-get_or}
 use lib.ListN.{get_or}
 use Rattle.ideal_heap.specs.Runs.{Entry, of_mutator}
-use Rattle.object_model.specs.Heaps.{heap_state}
 use Rattle.object_model.specs.Graphs.{MutatorState, numbers_of}
 use Rattle.sessions.specs.Plans.{Rules}
 use Rattle.mutator_core.specs.Machine.{Epoch as Began, first_machine}
 use Rattle.mutator_core.specs.declared.state.Local.{Local}
 use Rattle.mutator_core.specs.declared.state.LogEntry.{LogEntry}
 use Rattle.mutator_core.specs.Logs.{local_after_log}
-use Rattle.mutator_calls.specs.declared.need.Mutator.{Mutator}
 use Rattle.mutator_rule.specs.declared.seat.MutatorSeat.{MutatorSeat}
 use Rattle.mutator_rule.specs.Seats.{known, local_of}
 use Rattle.mutator_rule.specs.Views.{epoch_with}
 use Rattle.heap_users.specs.Users.{mutator_state}
 use Rattle.racing_world.specs.declared.world.World.{World}
-use Rattle.racing_world.specs.RacingSeats.{MayCall}
+use Rattle.racing_mutator.specs.RacingSeats.{MayCall}
 use Rattle.racing_world.specs.Calls.{calls_of, number_of, IsFresh}
 use Rattle.racing_world.specs.Closing.{mutator_at}
 use Rattle.block_regions.proofs.Lists.{get-some, get-below, get-map, one-element}
 use Rattle.mm_runtime.specs.declared.progress.Progress.{Progress}
-use Rattle.mm_runtime.specs.declared.progress.PartEnd.{PartEnd}
 use Rattle.mm_runtime.specs.declared.seat_part.Part.{Part}
 use Rattle.mm_runtime.specs.declared.epochs.Epoch.{Epoch}
 use Rattle.mm_runtime.specs.declared.manager.Manager.{Manager}
-use Rattle.mm_runtime.specs.Managers.{next_in_trace, IsInOrder, IsProgress}
+use Rattle.mm_runtime.specs.Managers.{next_in_trace, IsInOrder}
 use Rattle.mm_runtime.specs.Parts.{RepliesGrow}
 use Rattle.mm_runtime.specs.SeatParts.{HasFewBirths, IsPartOf, IsEndOf, births_before}
 use Rattle.mm_runtime.specs.OpenEpochs.{BeganWith, IsEpochOf, seat_of, trace_in}
-use Rattle.mm_runtime.proofs.PartLists.{all-get, map-get}
+use Rattle.mm_runtime.proofs.PartLists.{all-get}
 
 -- the births of a fresh seat are those of before the epoch
 first-births : {P : Type 0} (rules : Rules) (w : World P) (seat : MutatorSeat) → MayCall rules w.row seat → IsFresh rules seat

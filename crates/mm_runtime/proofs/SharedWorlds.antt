@@ -1,11 +1,9 @@
 -- The end of an epoch whose mutators ran on threads.
-use Rattle.std.proofs.Common.{◌≡◌, refl, sym, ◌∙◌, ap, subst, ℕ, List, map}
+use Rattle.std.proofs.Common.{◌≡◌, sym, ap, subst, List, map}
 use Rattle.std.specs.Prelude.{All}
-use Rattle.ideal_heap.specs.Ideal.{IdealHeap}
-use Rattle.ideal_heap.specs.Runs.{Entry, IsRun}
+use Rattle.ideal_heap.specs.Runs.{IsRun}
 use Rattle.object_model.specs.Heaps.{heap_state}
 use Rattle.object_model.specs.Objects.{HeapState}
-use Rattle.object_model.specs.Lawful.{IsLawful}
 use Rattle.object_model.specs.Graphs.{MutatorState, Represents, numbers_of}
 use Rattle.sessions.specs.Plans.{Rules}
 use Rattle.sessions.specs.Sessions.{Setting, Moment, Stopped, ideal_at}
@@ -18,8 +16,8 @@ use Rattle.heap_users.specs.Beginnings.{epoch_of, without_stop}
 use Rattle.heap_users.specs.Users.{mutator_state}
 use Rattle.heap_users.proofs.Cleared as cleared
 use Rattle.racing_world.specs.declared.world.World.{World}
-use Rattle.racing_world.specs.RacingSeats.{MayCall}
-use Rattle.racing_world.specs.Calls.{epoch_of_world, history_at}
+use Rattle.racing_mutator.specs.RacingSeats.{MayCall}
+use Rattle.racing_world.specs.Calls.{epoch_of_world}
 use Rattle.racing_world.specs.Closing.{EndsEpoch as ClosesWorld}
 use Rattle.racing_world.proofs.Begun.{all-at-place}
 use Rattle.managed_heap.specs.declared.stopped_heap.StoppedHeap.{StoppedHeap}

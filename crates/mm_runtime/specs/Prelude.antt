@@ -23,7 +23,7 @@ pub use Rattle.managed_heap.specs.Worlds.{HasPlace, IsOpen, births_at, mutator_n
 pub use Rattle.mutator_rule.specs.declared.seat.MutatorSeat.{MutatorSeat as Seat}
 pub use Rattle.racing_world.specs.Calls.{IsFresh as IsFreshSeat, epoch_of_world, has_raised, number_of}
 pub use Rattle.racing_world.specs.Closing.{EndsEpoch as ClosesWorld}
-pub use Rattle.racing_world.specs.RacingSeats.{MayCall}
+pub use Rattle.racing_mutator.specs.RacingSeats.{MayCall}
 pub use Rattle.sessions.specs.Fitting.{Fits}
 pub use Rattle.sessions.specs.Plans.{Rules}
 pub use Rattle.sessions.specs.Sessions.{CollectsFor, IsEpoch, IsWhole, Meets, Moment, RunsPart, ServesAll, ServesNeed, Setting, first_moment, is_at_gc, is_at_meet, is_at_need, is_waiting, traced_mutators}

@@ -12,8 +12,8 @@ use Rattle.mutator_calls.specs.declared.need.Need.{Need}
 use Rattle.mutator_calls.specs.Effects.{Answered}
 use Rattle.mutator_rule.specs.declared.seat.MutatorSeat.{MutatorSeat}
 use Rattle.racing_world.specs.declared.world.World.{World}
-use Rattle.racing_world.specs.RacingSeats.{MayCall}
-use Rattle.racing_world.specs.NoRoom.{IsCauseFor}
+use Rattle.racing_mutator.specs.RacingSeats.{MayCall}
+use Rattle.racing_rooms.specs.NoRoom.{IsCauseFor}
 use Rattle.racing_world.specs.Calls.{epoch_of_world, history_at, calls_of, number_of, stop_seen, has_raised, IsFresh}
 use Rattle.stored_replies.specs.Replies.{Replies}
 use Rattle.mm_runtime.specs.declared.progress.Progress.{Progress}

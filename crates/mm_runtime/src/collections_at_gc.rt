@@ -76,6 +76,7 @@ impl<P: Plan> Manager<P> {
             alloc,
             heap,
             mut progress,
+            pace,
         } = self;
         let Scheduler { rt, pool, gate } = *scheduler;
         let (heap, _) = heap.collect_noting(rt, Collect::Full, pool, gate, false)?;
@@ -84,6 +85,7 @@ impl<P: Plan> Manager<P> {
             alloc,
             heap,
             progress,
+            pace,
         })
     }
 }

@@ -62,6 +62,7 @@ impl<P: Plan> Manager<P> {
             alloc,
             heap: stopped,
             mut progress,
+            pace,
         } = self;
         let parts = stopped.into_parts();
         let mut world = PlainWorld::<P>::begin_with(
@@ -86,6 +87,7 @@ impl<P: Plan> Manager<P> {
             alloc,
             heap,
             progress,
+            pace,
         };
         Ok((manager, ends))
     }

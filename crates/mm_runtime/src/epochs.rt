@@ -7,6 +7,7 @@ ghost use Rattle.std.specs.Prelude.{◌≡◌, ◌↔◌, ◌<◌, ◌≤◌, Al
 ghost use Rattle.mm_runtime.specs.Prelude.{Setting, Moment, IsWhole, Closes, State, left, replied, number_of, has_raised, next_in_trace, raises_stop, SeatEndsFor, seat_of, trace_in, end_of, ClosesSome, HasEnded, IsManaged, IsInOrder, MakesEpoch, IsPartOf, RunsPartOf, RunsToEnd, RepliesSince, IsEpochOf, EndsParts, AreGcs, AreNeeds, RunsAll};
 
 use crate::manager::{Manager, Turn};
+use crate::pace::Pace;
 use crate::progress::{PartEnd, Progress};
 use crate::seat_part::{Part, run_part_at};
 use crate::side_by_side::{run_in_turn, run_side_by_side};
@@ -135,9 +136,15 @@ impl<P: Plan> Manager<P> {
             alloc,
             heap,
             progress,
+            ..
         } = self;
         let parts = heap.into_parts();
-        let (world, seats) = World::<P>::begin(alloc, parts.heap, parts.mutators)?;
+        let (world, seats) = World::<P>::begin_with(
+            alloc,
+            parts.heap,
+            parts.mutators,
+            &parts.notes,
+        )?;
         let epoch = Epoch {
             alloc,
             world,
@@ -173,25 +180,13 @@ impl<P: Plan> Epoch<P> {
         let Epoch {
             alloc,
             world,
-            notes: known,
+            notes,
             roots,
             nursery,
             full,
             workers,
         } = self;
-        let BlockNotes {
-            counts,
-            notes,
-            owned,
-            flags,
-        } = known;
-        let (heap, mutators, flags) = world.close_with(alloc, seats, flags)?;
-        let notes = BlockNotes {
-            counts,
-            notes,
-            owned,
-            flags,
-        };
+        let (heap, mutators, notes) = world.close_with(alloc, seats, notes)?;
         let parts = Parts {
             heap,
             mutators,
@@ -201,11 +196,12 @@ impl<P: Plan> Epoch<P> {
             full,
             workers,
         };
-        let heap = StoppedHeap::from_flagged_parts(alloc, parts);
+        let heap = StoppedHeap::from_parts(alloc, parts);
         let manager = Manager {
             alloc,
             heap,
             progress,
+            pace: Pace::new(),
         };
         Ok((manager, ends))
     }

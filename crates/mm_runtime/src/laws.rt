@@ -1,5 +1,5 @@
-//! What a world of mutators on threads leaves of a stopped heap, for runtimes that make their epochs
-//! themselves.
+//! What a world of mutators on threads leaves of a stopped heap, for runtimes that make their
+//! epochs themselves.
 
 ghost use Rattle.std.specs.Prelude.{◌≡◌, All, List, map};
 ghost use Rattle.mm_runtime.specs.Prelude.{Rules, Setting, Moment, Seat, Stopped, MayCall, epoch_of, epoch_of_world, heap_state, mutator_state, HeapStandsAt, ClosesWorld, EndsEpoch};

@@ -9,6 +9,7 @@ mod epochs;
 mod laws;
 mod manager;
 mod meets;
+mod pace;
 mod part;
 mod perform;
 mod place;

@@ -8,6 +8,7 @@ ghost use Rattle.std.specs.Prelude.{◌≡◌, ◌↔◌, ◌<◌, ◌≤◌, �
 ghost use Rattle.mm_runtime.specs.Prelude.{MIN_BLOCKS, MAX_BLOCKS, Setting, Moment, IsEpoch, IsWhole, first_moment, State, left, traces_of, replied, Closes, IsFresh, ClosesSome, IsRunnableTrace, HasEnded, IsManaged, IsInOrder, IsAtStop, AreGcs, AreNeeds, EndsParts, MakesEpoch, lists_of};
 
 use crate::epochs::run_parts;
+use crate::pace::Pace;
 use crate::progress::{PartEnd, Progress};
 use collector::MAX_WORKERS;
 use heap_layout::Layout;
@@ -37,6 +38,8 @@ pub struct Manager<P> {
     pub(crate) heap: StoppedHeap<P>,
     // The trace of each mutator, in their order.
     pub(crate) progress: Vec<Progress>,
+    // How long the last epochs were. No clause speaks of it.
+    pub(crate) pace: Pace,
 }
 
 /// A trace with room for its replies.
@@ -110,6 +113,7 @@ impl<P: Plan> Manager<P> {
             alloc,
             heap,
             progress,
+            pace: Pace::new(),
         })
     }
 
@@ -155,9 +159,43 @@ fn some_two_left(progress: &[Progress]) -> bool {
 }
 
 impl<P: Plan + Sync> Manager<P> {
+    /// Runs one epoch and its stop, as `advance` does, with mutators in threads or in turns.
+    fn run_to_stop<Q: Pool, G: Gate, R: Threads + Sync>(
+        self,
+        rt: &R,
+        pool: &Q,
+        gate: &G,
+        on_threads: bool,
+    ) -> Result<(Manager<P>, Turn), AllocError>
+        requires plan { IsManaged P.rules }
+        requires ready { ClosesSome P.rules self }
+        ensures ready { IfOk result (λ r. ClosesSome P.rules r.0) }
+        ensures epoch { (t : Setting) (now : Moment) → Closes P.rules self t now
+            → IfOk result (λ r. (next : Moment) × IsEpoch t now next
+            × Closes P.rules r.0 t next) }
+        ensures ended { IfOk result (λ r. (r.1 ≡ Turn.Ended) ↔ HasEnded r.0) }
+        ensures more { IfOk result (λ r. r.1 ≡ Turn.More
+            → replied self.progress.items < replied r.0.progress.items) }
+        ensures left { IfOk result (λ r. r.1 ≡ Turn.More
+            → left r.0.progress.items < left self.progress.items) }
+        ensures whole { IfOk result (λ r. r.1 ≡ Turn.Ended → (t : Setting) (now : Moment)
+            → Closes P.rules r.0 t now → IsWhole t now) }
+    {
+        if on_threads {
+            let (epoch, mut parts) = self.open_epoch()?;
+            run_parts(rt, &epoch, &mut parts, gate);
+            let (next, turn) = epoch.close_epoch(rt, parts, pool, gate)?;
+            return Ok((next, turn));
+        }
+        let (manager, ends) = self.run_epoch(gate)?;
+        let scheduler = Scheduler { rt, pool, gate };
+        let (manager, turn) = manager.make_stop(&scheduler, &ends)?;
+        Ok((manager, turn))
+    }
+
     /// Runs one epoch and its stop: each mutator runs until it stops, and then collections are made
-    /// and needs are served. Mutators run in threads, if two or more have commands left. The packets
-    /// of collections run in `pool`.
+    /// and needs are served. Mutators run in threads, if two or more have commands left, and in
+    /// turns while one short epoch follows another. The packets of collections run in `pool`.
     ///
     /// Fails if memory runs out. The manager is lost then.
     pub fn advance<Q: Pool, G: Gate, R: Threads + Sync>(
@@ -180,15 +218,12 @@ impl<P: Plan + Sync> Manager<P> {
         ensures whole { IfOk result (λ r. r.1 ≡ Turn.Ended → (t : Setting) (now : Moment)
             → Closes P.rules r.0 t now → IsWhole t now) }
     {
-        if some_two_left(&self.progress) {
-            let (epoch, mut parts) = self.open_epoch()?;
-            run_parts(rt, &epoch, &mut parts, gate);
-            let (next, turn) = epoch.close_epoch(rt, parts, pool, gate)?;
-            return Ok((next, turn));
-        }
-        let (manager, ends) = self.run_epoch(gate)?;
-        let scheduler = Scheduler { rt, pool, gate };
-        let (manager, turn) = manager.make_stop(&scheduler, &ends)?;
+        let on_threads = !self.pace.is_slow() && some_two_left(&self.progress);
+        let pace = self.pace;
+        let before = self.commands();
+        let (mut manager, turn) = self.run_to_stop(rt, pool, gate, on_threads)?;
+        let more = manager.commands().saturating_sub(before);
+        manager.pace = pace.after(more);
         Ok((manager, turn))
     }
 }

@@ -73,6 +73,7 @@ impl<P: Plan> Manager<P> {
             alloc,
             heap,
             mut progress,
+            pace,
         } = self;
         let (heap, placed, _) = heap.place_or_collect(rt, number, need, pool, gate, false)?;
         reply_to(&mut progress, number, reply_for(&placed));
@@ -80,6 +81,7 @@ impl<P: Plan> Manager<P> {
             alloc,
             heap,
             progress,
+            pace,
         };
         Ok((manager, placed))
     }

@@ -1,7 +1,7 @@
 //! Parts of an epoch, run one after another or at the same time.
 //!
-//! `run_parts` calls `run_side_by_side`, `close_epoch` calls `run_in_turn`. The parts are those of one
-//! epoch, or some of them next to each other.
+//! `run_parts` calls `run_side_by_side`, `close_epoch` calls `run_in_turn`. The parts are those of
+//! one epoch, or some of them next to each other.
 
 ghost use Rattle.std.specs.Prelude.{◌≡◌, ◌<◌, ◌≤◌, ℕ, All, length};
 ghost use Rattle.std.specs.Thread.{IsSync};

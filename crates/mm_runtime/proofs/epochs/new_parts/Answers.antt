@@ -1,14 +1,14 @@
 -- One part more, with the first seat that is left.
-use Rattle.std.proofs.Common.{◌≡◌, ◌≤◌, ◌<◌, refl, sym, ◌∙◌, ap, subst, arith, ℕ, List, [], ◌∷◌, ◌++◌, map, length, length-append}
-use Rattle.std.specs.Prelude.{None, Some, All, slice_get, vec_capacity}
-use Rattle.std.proofs.lemmas.List.{length-map, map-append}
+use Rattle.std.proofs.Common.{◌≡◌, ◌≤◌, ◌<◌, refl, sym, ◌∙◌, ap, subst, arith, ℕ, List, [], ◌∷◌, ◌++◌, map, length}
+use Rattle.std.specs.Prelude.{None, Some, slice_get, vec_capacity}
+use Rattle.std.proofs.lemmas.List.{map-append}
 use Rattle.mutator_rule.specs.declared.seat.MutatorSeat.{MutatorSeat}
 use Rattle.racing_world.specs.Calls.{number_of}
 use Rattle.mm_runtime.specs.declared.progress.Progress.{Progress}
 use Rattle.mm_runtime.specs.declared.seat_part.Part.{Part}
 use Rattle.mm_runtime.specs.OpenEpochs.{seat_of, trace_in}
 use Rattle.mm_runtime.proofs.Begun.{pushed}
-use Rattle.mm_runtime.proofs.PartLists.{all-from, first-moved}
+use Rattle.mm_runtime.proofs.PartLists.{first-moved}
 use Rattle.mm_runtime.proofs.epochs.new_parts.Goals as goal
 
 pub loop-trace-preserved : goal.loop-trace-preserved

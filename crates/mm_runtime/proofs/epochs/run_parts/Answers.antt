@@ -1,5 +1,5 @@
 -- The parts belong to the epoch before and after.
-use Rattle.std.proofs.Common.{◌≡◌, sym, subst, List, length}
+use Rattle.std.proofs.Common.{sym, subst, List}
 use Rattle.std.specs.Prelude.{All}
 use Rattle.mm_runtime.specs.declared.seat_part.Part.{Part}
 use Rattle.mm_runtime.specs.SeatParts.{IsPartOf}

@@ -1,5 +1,5 @@
 -- The seats and traces of the parts so far.
-use Rattle.std.proofs.Common.{◌≡◌, ◌≤◌, ◌+◌, map, length}
+use Rattle.std.proofs.Common.{◌≡◌, ◌≤◌, map, length}
 use Rattle.std.specs.Prelude.{vec_capacity}
 use Rattle.mm_runtime.specs.OpenEpochs.{end_of, seat_of, trace_in}
 use Rattle.mm_runtime.proofs.epochs.take_apart.Given as goal

@@ -1,9 +1,9 @@
 -- An allocation makes the entry of its `new`; one that stops makes none, and then a stop is raised.
-use Rattle.std.proofs.Common.{◌≡◌, refl, [], ◌+◌, ◌≤◌, ◌<◌, ◌^◌, arith, length}
+use Rattle.std.proofs.Common.{◌≡◌, refl, [], arith}
 use Rattle.mm_runtime.proofs.SeatReplies.{gets-reply, seat-append, seat-nothing}
 use Rattle.mm_runtime.proofs.SeatBirths.{seat-births}
 use Rattle.object_model.specs.Objects.{size_of}
-use Rattle.racing_world.proofs.RoomLaws.{cause-stays}
+use Rattle.racing_world.proofs.CausesStay.{cause-stays}
 use Rattle.mm_runtime.proofs.SeatCauses.{size-same}
 use Rattle.mm_runtime.proofs.seat_part.allocate_at.Goals as goal
 

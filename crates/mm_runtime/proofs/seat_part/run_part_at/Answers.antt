@@ -1,5 +1,4 @@
 use Rattle.std.proofs.Common.{refl, Some}
-use Rattle.mm_runtime.specs.declared.seat_part.Part.{Part}
 use Rattle.mm_runtime.proofs.PartsRun.{part-none, since-ran}
 use Rattle.mm_runtime.proofs.seat_part.run_part_at.Goals as goal
 

@@ -1,5 +1,5 @@
 -- Each step gives one reply, or ends the part.
-use Rattle.std.proofs.Common.{◌≡◌, refl, sym, ◌∙◌, ap, subst, ◌+◌, ◌<◌, ◌≤◌, length, arith, length-append, ◌∷◌, []}
+use Rattle.std.proofs.Common.{◌≡◌, refl, sym, ◌∙◌, ap, subst, ◌+◌, length, arith, length-append, ◌∷◌, []}
 use Rattle.std.specs.Prelude.{Option, Some}
 use Rattle.ideal_heap.specs.declared.command.Command.{Command}
 use Rattle.mm_runtime.specs.declared.progress.Progress.{Progress}

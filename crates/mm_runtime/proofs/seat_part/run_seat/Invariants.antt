@@ -1,6 +1,6 @@
 -- The mutator got the replies to its commands so far, and did not call `raise`.
 use Rattle.std.proofs.Common.{◌≡◌, ◌-◌, false, length}
-use Rattle.racing_world.specs.RacingSeats.{MayCall}
+use Rattle.racing_mutator.specs.RacingSeats.{MayCall}
 use Rattle.racing_world.specs.Calls.{has_raised}
 use Rattle.mm_runtime.specs.Managers.{IsProgress}
 use Rattle.mm_runtime.specs.SeatParts.{HasFewBirths, RunsSeat}

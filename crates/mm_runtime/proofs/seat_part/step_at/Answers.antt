@@ -1,5 +1,5 @@
 -- A poll comes first, and enters nothing.
-use Rattle.std.proofs.Common.{◌≡◌, refl, sym, ◌∙◌, ap, subst, [], ◌≤◌, ◌+◌, ◌<◌, ◌^◌, arith}
+use Rattle.std.proofs.Common.{◌≡◌, refl, sym, ◌∙◌, ap, subst, []}
 use Rattle.std.specs.Prelude.{Some, None, MatchOption}
 use Rattle.ideal_heap.specs.declared.command.Command.{Command}
 use Rattle.mm_runtime.specs.SeatParts.{SeatEndsPart, SeatGetsReply}

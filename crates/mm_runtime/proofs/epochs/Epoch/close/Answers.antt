@@ -1,15 +1,13 @@
 -- The seats are those of the parts.
-use Rattle.std.proofs.Common.{◌≡◌, ◌<◌, ◌≤◌, sym, ◌∙◌, ap, subst, arith, List, map, length}
-use Rattle.std.specs.Prelude.{All, vec_capacity}
+use Rattle.std.proofs.Common.{◌≡◌, sym, ◌∙◌, ap, subst, arith, List, map, length}
+use Rattle.std.specs.Prelude.{All}
 use Rattle.std.proofs.lemmas.List.{length-map}
 use Rattle.object_model.specs.Heaps.{heap_state}
-use Rattle.object_model.specs.Objects.{HeapState}
-use Rattle.object_model.specs.Graphs.{numbers_of}
 use Rattle.mutator_core.specs.Machine.{Epoch as Began}
 use Rattle.mutator_rule.specs.declared.seat.MutatorSeat.{MutatorSeat}
 use Rattle.heap_users.specs.Users.{mutator_state}
 use Rattle.managed_heap.specs.declared.stopped_heap.Parts.{Parts}
-use Rattle.racing_world.specs.RacingSeats.{MayCall}
+use Rattle.racing_mutator.specs.RacingSeats.{MayCall}
 use Rattle.racing_world.specs.Calls.{number_of}
 use Rattle.racing_world.specs.Closing.{EndsEpoch, mutator_at}
 use Rattle.block_regions.specs.Notes.{AreNotes, FlagsCover}
@@ -44,42 +42,31 @@ close_with-requires-clause-flags g c =
     let ready = c.requires.ready in
     handed.flags-cover g.P.Plan.rules ready.0 c.args.self c.args.parts.items ready.2 ready.1.order
 
-pub from_flagged_parts-heap-requires-clause-blocks : goal.from_flagged_parts-heap-requires-clause-blocks
-from_flagged_parts-heap-requires-clause-blocks g c =
+pub close_with-requires-clause-notes : goal.close_with-requires-clause-notes
+close_with-requires-clause-notes g c =
     let ready = c.requires.ready in
-    handed.notes-len g.P.Plan.rules ready.0 c.args.self c.args.parts.items ready.2 ready.1.order (heap_state c.in_ok-heap.heap) c.in_ok-heap.ensures.ends.size
-
-pub from_flagged_parts-heap-requires-clause-owned : goal.from_flagged_parts-heap-requires-clause-owned
-from_flagged_parts-heap-requires-clause-owned g c =
-    let ready = c.requires.ready in
-    handed.none-owned g.P.Plan.rules ready.0 c.args.self c.args.parts.items ready.2 ready.1.order
-
-pub from_flagged_parts-heap-requires-clause-room : goal.from_flagged_parts-heap-requires-clause-room
-from_flagged_parts-heap-requires-clause-room g c =
-    let ready = c.requires.ready in
-    handed.notes-room g.P.Plan.rules ready.0 c.args.self c.args.parts.items ready.2 ready.1.order (heap_state c.in_ok-heap.heap) c.in_ok-heap.ensures.ends.size
+    handed.are-notes g.P.Plan.rules ready.0 c.args.self c.args.parts.items ready.2 ready.1.order g.met.P.Plan.fill_has_holes
 
 pub returns : goal.returns
 returns g c =
     let rules = g.P.Plan.rules in
     let ready = c.requires.ready in
-    let heap = c.from_flagged_parts-heap.ensures in
-    let new : Manager g.row.P.Denot = record { alloc = c.args.self.alloc; heap = c.from_flagged_parts-heap.result; progress = c.in_ok-seats.progress } in
+    let same = c.from_parts-heap.ensures in
+    let new : Manager g.row.P.Denot = record { alloc = c.args.self.alloc; heap = c.from_parts-heap.result; progress = c.in_ok-seats.progress; pace = c.new.result } in
     let ends = c.in_ok-seats.ends.items in
     let close : (old : Manager g.row.P.Denot) → IsEpochOf rules old c.args.self c.args.parts.items → ClosesParts rules old c.args.self c.args.parts.items ends new = λ old is. record {
       opened = is;
       ended = c.requires.ended;
       ends_are = c.in_ok-seats.ensures.ends;
-      closes = subst (λ (q : Parts). EndsEpoch rules (closed.began_at rules old) (map seat_of c.args.parts.items) (heap_state q.heap) (map mutator_state q.mutators.items)) (sym heap.same)
+      closes = subst (λ (q : Parts). EndsEpoch rules (closed.began_at rules old) (map seat_of c.args.parts.items) (heap_state q.heap) (map mutator_state q.mutators.items)) (sym same)
           (subst (λ (xs : List MutatorSeat). EndsEpoch rules (closed.began_at rules old) xs (heap_state c.in_ok-heap.heap) (map mutator_state c.in_ok-heap.mutators.items)) c.in_ok-seats.ensures.seats
           (subst (λ (p : Began). EndsEpoch rules p c.in_ok-seats.seats.items (heap_state c.in_ok-heap.heap) (map mutator_state c.in_ok-heap.mutators.items)) is.began.epoch c.in_ok-heap.ensures.ends));
-      mutators = ap (λ (q : Parts). map mutator_state q.mutators.items) heap.same ∙ c.in_ok-heap.ensures.ends.mutators ∙ ap (map mutator_at) c.in_ok-seats.ensures.seats;
-      notes = heap.notes;
-      flags = subst (λ fs. FlagsCover rules (heap_state c.from_flagged_parts-heap.result.heap) fs.items) (sym heap.flags)
-          (subst (λ (q : Parts). FlagsCover rules (heap_state q.heap) c.in_ok-heap.flags.items) (sym heap.same) c.in_ok-heap.ensures.flags);
-      nursery = ap (λ (q : Parts). q.nursery) heap.same ∙ is.began.nursery;
-      full = ap (λ (q : Parts). q.full) heap.same ∙ is.began.full;
-      workers = ap (λ (q : Parts). q.workers) heap.same ∙ is.began.workers;
+      mutators = ap (λ (q : Parts). map mutator_state q.mutators.items) same ∙ c.in_ok-heap.ensures.ends.mutators ∙ ap (map mutator_at) c.in_ok-seats.ensures.seats;
+      notes = subst (λ (q : Parts). AreNotes rules.fill (heap_state q.heap) q.notes) (sym same) c.in_ok-heap.ensures.notes;
+      flags = subst (λ (q : Parts). FlagsCover rules (heap_state q.heap) q.notes.flags.items) (sym same) c.in_ok-heap.ensures.flags;
+      nursery = ap (λ (q : Parts). q.nursery) same ∙ is.began.nursery;
+      full = ap (λ (q : Parts). q.full) same ∙ is.began.full;
+      workers = ap (λ (q : Parts). q.workers) same ∙ is.began.workers;
       progress = c.in_ok-seats.ensures.traces;
     } in
     let own = close ready.0 ready.2 in record {

@@ -1,12 +1,11 @@
 -- The rest of the parts and the stop make the epoch whole.
-use Rattle.std.proofs.Common.{◌≡◌, ◌<◌, sym, subst, List, length}
+use Rattle.std.proofs.Common.{sym, subst, List}
 use Rattle.std.specs.Prelude.{All}
 use Rattle.mm_runtime.specs.declared.progress.PartEnd.{PartEnd}
 use Rattle.mm_runtime.specs.declared.seat_part.Part.{Part}
 use Rattle.mm_runtime.specs.SeatParts.{IsPartOf}
-use Rattle.mm_runtime.specs.declared.manager.Manager.{Manager}
 use Rattle.mm_runtime.specs.Parts.{AreGcs, AreNeeds}
-use Rattle.mm_runtime.specs.OpenEpochs.{EndsParts, IsEpochOf, MakesEpoch}
+use Rattle.mm_runtime.specs.OpenEpochs.{EndsParts}
 use Rattle.mm_runtime.proofs.Advancing.{goes-on-more}
 use Rattle.mm_runtime.proofs.PartsLater as later
 use Rattle.mm_runtime.proofs.Remaining.{fewer, whole}

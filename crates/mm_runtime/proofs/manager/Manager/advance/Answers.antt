@@ -1,62 +1,18 @@
--- The parts and the stop make an epoch.
-use Rattle.std.proofs.Common.{◌≡◌, ◌<◌, sym, ◌∙◌, ap, subst, List, length}
-use Rattle.mm_runtime.specs.declared.progress.PartEnd.{PartEnd}
-use Rattle.mm_runtime.specs.Parts.{AreGcs, AreNeeds}
-use Rattle.mm_runtime.specs.OpenEpochs.{EndsParts, MakesEpoch}
-use Rattle.mm_runtime.proofs.Advancing.{goes-on-more}
-use Rattle.mm_runtime.proofs.Remaining.{fewer, whole}
+-- The epoch as it was made, with another pace.
+use Rattle.mm_runtime.proofs.PaceKept as kept
 use Rattle.mm_runtime.proofs.manager.Manager.advance.Goals as goal
 
-pub run_parts-requires-clause-ready : goal.run_parts-requires-clause-ready
-run_parts-requires-clause-ready g c κs within = (c.args.self, c.requires.ready, c.in_ok-epoch.ensures.epoch)
-
-pub close_epoch-requires-clause-ready : goal.close_epoch-requires-clause-ready
-close_epoch-requires-clause-ready g c κs within = (c.args.self, c.requires.ready, c.run_parts.ensures.epoch c.args.self c.in_ok-epoch.ensures.epoch)
-
-pub returns-then-some_two_left-clause-epoch : goal.returns-then-some_two_left-clause-epoch
-returns-then-some_two_left-clause-epoch g c = c.in_ok-next.ensures.epoch c.args.self (c.run_parts.ensures.epoch c.args.self c.in_ok-epoch.ensures.epoch)
-
-pub returns-then-some_two_left-clause-more : goal.returns-then-some_two_left-clause-more
-returns-then-some_two_left-clause-more g c = c.in_ok-next.ensures.more c.args.self c.requires.ready (c.run_parts.ensures.epoch c.args.self c.in_ok-epoch.ensures.epoch)
-
-pub returns-then-some_two_left-clause-left : goal.returns-then-some_two_left-clause-left
-returns-then-some_two_left-clause-left g c = c.in_ok-next.ensures.left c.args.self c.requires.ready (c.run_parts.ensures.epoch c.args.self c.in_ok-epoch.ensures.epoch)
-
-pub make_stop-requires-clause-stop : goal.make_stop-requires-clause-stop
-make_stop-requires-clause-stop g c κs within =
-    let ready = c.requires.ready in
-    let part = c.in_ok-manager.ensures.part ready.setting ready.now ready.closes in
-    record { order = c.in_ok-manager.ensures.order; setting = ready.setting; now = part.0; stands = part.2 }
-
-pub make_stop-requires-clause-gcs : goal.make_stop-requires-clause-gcs
-make_stop-requires-clause-gcs g c κs within =
-    subst (λ (es : List PartEnd). AreGcs c.in_ok-manager.manager.progress.items es) (sym c.deref-2.ensures.value) c.in_ok-manager.ensures.gcs
-
-pub make_stop-requires-clause-needs : goal.make_stop-requires-clause-needs
-make_stop-requires-clause-needs g c κs within =
-    subst (λ (es : List PartEnd). AreNeeds c.in_ok-manager.manager.progress.items es) (sym c.deref-2.ensures.value) c.in_ok-manager.ensures.needs
-
-pub returns-clause-epoch : goal.returns-clause-epoch
-returns-clause-epoch g c = c.in_ok-manager-2.ensures.epoch c.args.self
-    (subst (λ (es : List PartEnd). EndsParts g.P.Plan.rules c.args.self es c.in_ok-manager.manager) (sym c.deref-2.ensures.value) c.in_ok-manager.ensures.part)
+pub commands-before-requires : goal.commands-before-requires
+commands-before-requires g c = c.requires.ready.order
 
 pub returns-clause-ready : goal.returns-clause-ready
-returns-clause-ready g c =
-    let ready = c.requires.ready in
-    let next = returns-clause-epoch g c ready.setting ready.now ready.closes in
-    record { order = c.in_ok-manager-2.ensures.order; setting = ready.setting; now = next.0; closes = next.2 }
+returns-clause-ready g c = kept.closes-some g.P.Plan.rules c.in_ok-manager.manager c.after-manager.result c.in_ok-manager.ensures.ready
 
-pub returns-clause-more : goal.returns-clause-more
-returns-clause-more g c more =
-    let ready = c.requires.ready in
-    goes-on-more g.P.Plan.rules c.args.self c.in_ok-manager-2.manager c.in_ok-manager-2.turn (returns-clause-epoch g c) ready.setting ready.now ready.closes c.in_ok-manager-2.ensures.ended.1 more
-
-pub returns-clause-left : goal.returns-clause-left
-returns-clause-left g c more =
-    let ready = c.requires.ready in
-    let next = returns-clause-epoch g c ready.setting ready.now ready.closes in
-    fewer g.P.Plan.rules c.args.self c.in_ok-manager-2.manager ready.setting ready.now next.0 ready.closes.stands next.2.stands ready.order.each c.in_ok-manager-2.ensures.order.each
-    (returns-clause-more g c more)
+pub returns-clause-epoch : goal.returns-clause-epoch
+returns-clause-epoch g c t now closes =
+    let next = c.in_ok-manager.ensures.epoch t now closes in
+    (next.0, next.1, kept.closes g.P.Plan.rules c.in_ok-manager.manager c.after-manager.result t next.0 next.2)
 
 pub returns-clause-whole : goal.returns-clause-whole
-returns-clause-whole g c ended t now closes = whole g.P.Plan.rules c.in_ok-manager-2.manager t now closes (c.in_ok-manager-2.ensures.ended.0 ended)
+returns-clause-whole g c ended t now closes =
+    c.in_ok-manager.ensures.whole ended t now (kept.closed-before g.P.Plan.rules c.in_ok-manager.manager c.after-manager.result t now closes)

@@ -1,5 +1,5 @@
 -- The first moment of a session.
-use Rattle.std.proofs.Common.{◌≡◌, ◌≤◌, ◌∙◌, arith, length}
+use Rattle.std.proofs.Common.{◌≡◌, ◌≤◌, arith, length}
 use Rattle.mm_runtime.proofs.FirstManager as first
 use Rattle.mm_runtime.proofs.manager.Manager.begin_stored.Goals as goal
 

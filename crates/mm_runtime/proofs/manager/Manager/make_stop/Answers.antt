@@ -1,5 +1,5 @@
 -- The part and the steps of the stop make an epoch.
-use Rattle.std.proofs.Common.{◌≡◌, refl, sym, ◌∙◌, ap, List, length}
+use Rattle.std.proofs.Common.{refl, sym, ◌∙◌}
 use Rattle.mm_runtime.proofs.Advancing as advancing
 use Rattle.mm_runtime.proofs.MeetStops.{as-many}
 use Rattle.mm_runtime.proofs.manager.Manager.make_stop.Goals as goal

@@ -42,6 +42,6 @@ returns-clause-serves g c =
 
 pub returns-clause-placed : goal.returns-clause-placed
 returns-clause-placed g c =
-    ordered.placed-after g.P.Plan.rules c.args.self (record { alloc = c.args.self.alloc; heap = c.in_ok-heap.heap; progress = c.reply_to.new.progress }) c.args.number c.args.need c.in_ok-heap.placed
+    ordered.placed-after g.P.Plan.rules c.args.self (record { alloc = c.args.self.alloc; heap = c.in_ok-heap.heap; progress = c.reply_to.new.progress; pace = c.args.self.pace }) c.args.number c.args.need c.in_ok-heap.placed
     (subst (λ (x : Reply). (k : ℕ) → k + 1 ≡ c.args.number → RepliesAt c.args.self.progress.items c.reply_to.new.progress.items k x) c.reply_for.ensures c.reply_to.ensures)
     c.in_ok-heap.ensures.refused

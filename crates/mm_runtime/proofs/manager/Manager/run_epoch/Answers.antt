@@ -67,7 +67,7 @@ pub returns : goal.returns
 returns g c =
     let rules : Rules = g.P.Plan.rules in
     let old : Manager g.row.P.Denot = c.args.self in
-    let new : Manager g.row.P.Denot = record { alloc = c.args.self.alloc; heap = c.from_parts-heap.result; progress = c.run_parts.new.progress } in
+    let new : Manager g.row.P.Denot = record { alloc = c.args.self.alloc; heap = c.from_parts-heap.result; progress = c.run_parts.new.progress; pace = c.args.self.pace } in
     let ends : List PartEnd = c.in_ok-ends.ends.items in
     let begin = c.in_ok-world.ensures in
     let close = c.close_with-heap.ensures in
