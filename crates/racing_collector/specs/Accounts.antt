@@ -1,5 +1,6 @@
 -- What a worker of a racing trace has done, by the share of its seat.
-use Rattle.std.specs.Prelude.{◌≡◌, ℕ, ◌+◌, ◌-◌, ◌^◌, ◌<◌, ◌⊎◌, min, Bool, not, nat_eq, IsTrue, List, [], All, length, map, slice_index, count_by, sum_by}
+use Rattle.std.specs.Prelude.{◌≡◌, ℕ, ◌+◌, ◌-◌, ◌^◌, ◌<◌, ◌⊎◌, min, Bool, not, nat_eq, IsTrue, List, [], All, length}
+use Rattle.std.specs.Prelude.{map, slice_index, count_by, sum_by}
 use Rattle.object_model.specs.Lawful.{AreRoots}
 use Rattle.object_model.specs.Lines.{TouchesLine}
 use Rattle.object_model.specs.Times.{times}

@@ -1,5 +1,6 @@
 -- What a trace by several workers leaves.
-use Rattle.std.specs.Prelude.{◌≡◌, ℕ, ◌+◌, ◌*◌, ◌<◌, ◌≤◌, ◌⊎◌, Bool, ◌&&◌, false, not, nat_eq, nat_lt, IsTrue, Some, List, length, map, sum_by}
+use Rattle.std.specs.Prelude.{◌≡◌, ℕ, ◌+◌, ◌*◌, ◌<◌, ◌≤◌, ◌⊎◌, Bool, ◌&&◌, false, not, nat_eq, nat_lt, IsTrue, Some}
+use Rattle.std.specs.Prelude.{List, length, map, sum_by}
 use Rattle.std.specs.List.{range_with_len}
 use Rattle.heap_layout.specs.Zones.{LineWords, bit_of, row_words}
 use Rattle.heap_layout.specs.declared.layout.TheConstants.{BLOCK_LINES}

@@ -5,6 +5,7 @@ ghost use Rattle.std.specs.Prelude.{◌≡◌, ◌≢◌, ℕ, ◌+◌, ◌<◌,
 ghost use Rattle.object_model.specs.Objects.{IsHeld};
 ghost use Rattle.object_model.specs.Times.{times};
 ghost use Rattle.trace_table.specs.Seats.{IsGlobalRoot, IsGrey, IsTable, setup_at};
+ghost use Rattle.trace_table.specs.declared.looking.TheConstants.{MOST_AHEAD};
 ghost use Rattle.trace_table.specs.declared.tokens.Grey.{Grey};
 ghost use Rattle.racing_collector.specs.declared.served.Served.{Served};
 ghost use Rattle.racing_collector.specs.Items.{IsItemOf, registers, tokens};
@@ -15,18 +16,63 @@ use crate::item::RaceItem;
 use crate::racing::Racing;
 use crate::served::Served;
 use std::alloc::AllocError;
-use trace_table::{Claim, GlobalRoot, Grey, WorkerSeat};
+use trace_table::{Claim, GlobalRoot, Grey, MOST_AHEAD, WorkerSeat};
+
+/// Notes an address after the first `count` places, if there is room.
+#[inline(always)]
+fn note(ahead: &mut [u64; MOST_AHEAD], count: usize, x: u32) -> usize
+    requires len { length ahead.old ≡ MOST_AHEAD }
+    requires room { count ≤ MOST_AHEAD }
+    ensures len { length ahead.new ≡ MOST_AHEAD }
+    ensures room { result ≤ MOST_AHEAD }
+{
+    if count == MOST_AHEAD {
+        return count;
+    }
+    ahead[count] = x as u64;
+    count + 1
+}
 
 impl Racing {
-    /// Looks ahead at the objects of a packet.
+    /// Looks ahead at the objects to which a packet's objects and roots refer.
     pub(crate) fn look_ahead(&self, items: &[RaceItem])
         requires table { IsTable self.now.table }
         requires items { All (IsItemOf self.now) items.now }
     {
+        let mut ahead = [0u64; MOST_AHEAD];
+        let count = self.note_items(items, &mut ahead);
+        self.table.look_at_noted(&ahead, count);
+    }
+
+    /// Notes to what the items refer, as far as there is room. The answer is how many are noted.
+    fn note_items(&self, items: &[RaceItem], ahead: &mut [u64; MOST_AHEAD]) -> usize
+        requires table { IsTable self.now.table }
+        requires items { All (IsItemOf self.now) items.now }
+        requires len { length ahead.old ≡ MOST_AHEAD }
+        ensures len { length ahead.new ≡ MOST_AHEAD }
+        ensures room { result ≤ MOST_AHEAD }
+    {
+        let mut count = 0;
         for item in items {
-            if let RaceItem::Object(grey) = item {
-                self.table.look_ahead(grey);
-            }
+            count = self.note_item(item, ahead, count);
+        }
+        count
+    }
+
+    /// Notes to what an item refers after the first `count` places.
+    #[inline(always)]
+    fn note_item(&self, item: &RaceItem, ahead: &mut [u64; MOST_AHEAD], count: usize) -> usize
+        requires table { IsTable self.now.table }
+        requires item { IsItemOf self.now item.now }
+        requires len { length ahead.old ≡ MOST_AHEAD }
+        requires room { count ≤ MOST_AHEAD }
+        ensures len { length ahead.new ≡ MOST_AHEAD }
+        ensures room { result ≤ MOST_AHEAD }
+    {
+        match item {
+            RaceItem::Register(place) => note(ahead, count, self.roots[*place as usize]),
+            RaceItem::Global(_) => count,
+            RaceItem::Object(grey) => self.table.note_fields(grey, ahead, count),
         }
     }
 

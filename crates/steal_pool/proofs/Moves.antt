@@ -7,7 +7,7 @@ use mathlib.Core.Option.{some, none, some-ne-none}
 use lib.ListN.{get_elem?}
 use Rattle.std.specs.List.Sorted.{IsPermutation}
 use Rattle.std.proofs.lemmas.List.Sorted.{IsPermutation-refl, IsPermutation-trans, IsPermutation-append_right, IsPermutation-append_left, IsPermutation-sym, length_permutation}
-use Rattle.crossbeam_deque.specs.Tasks.{Pushes, Takes, Finds, Forks, Merges}
+use Rattle.crossbeam_deque.specs.Tasks.{Pushes, Takes, Pops, Finds, Forks, Merges}
 use Rattle.work_packets.specs.declared.packet.Packet.{Packet}
 use Rattle.work_packets.proofs.Pieces.{nothing, piece, join, rearranged}
 use Rattle.steal_pool.specs.declared.rule.Hand.{Hand}
@@ -105,6 +105,17 @@ module _ {T : Type 0} (fits : Packet T → Type 0) where
   pops : (v : Hand T) (most : ℕ) → 0 < v.parts → Takes (IsBalanced fits) 0 v most (λ xs w. (w ≡ hand v.parts v.put (v.taken ++ xs)) × (length w.taken ≤ length w.put) × All fits xs)
   pops v most pos xs items views _ _ h at = let w : Hand T = hand v.parts v.put (v.taken ++ xs) in let b = gone 0 v xs items views pos h at in (w, b, (refl, within items views v w at b, all-left fits xs items h.fit))
 
+  turned : (items xs : List (Packet T)) (views : List (Hand T)) → IsBalanced fits (items ++ xs) views → IsBalanced fits (xs ++ items) views
+  turned items xs views h = record {
+    parts = h.parts;
+    once = IsPermutation-trans _ _ _ h.once (rearranged (taken_by views ∷ items ∷ xs ∷ []) (join (piece 0) (join (piece 1) (piece 2))) (join (piece 0) (join (piece 2) (piece 1))) refl);
+    idle = h.idle;
+    fit = All-append fits xs items (all-right fits items xs h.fit) (all-left fits items xs h.fit);
+  }
+
+  pops_last : (v : Hand T) → 0 < v.parts → Pops (IsBalanced fits) 0 v (λ xs w. (w ≡ hand v.parts v.put (v.taken ++ xs)) × (length w.taken ≤ length w.put) × All fits xs)
+  pops_last v pos x items views h at = pops v 1 pos (x ∷ []) items views (omega arith) (omega arith) (turned items (x ∷ []) views h) at
+
   finds : (v : Hand T) → Finds (IsBalanced fits) 0 v (v.parts ≡ PARTS → IsPermutation v.put v.taken)
   finds v [] h at = absurd (some-ne-none v (sym at))
   finds v (x ∷ xs) h at = λ all.
@@ -163,8 +174,8 @@ module _ {T : Type 0} (fits : Packet T → Type 0) where
   pub own_pushes : (port : ℕ) (v : Hand T) (xs : List (Packet T)) → port ≡ 0 → 0 < v.parts → All fits xs → Pushes (IsBalanced fits) port v xs (λ w. w ≡ hand v.parts (v.put ++ xs) v.taken)
   own_pushes port v xs e pos fit = subst (λ n. Pushes (IsBalanced fits) n v xs (λ w. w ≡ hand v.parts (v.put ++ xs) v.taken)) (sym e) (pushes fits v xs pos fit)
 
-  pub own_pops : (port : ℕ) (v : Hand T) (most : ℕ) → port ≡ 0 → 0 < v.parts → Takes (IsBalanced fits) port v most (λ xs w. (w ≡ hand v.parts v.put (v.taken ++ xs)) × (length w.taken ≤ length w.put) × All fits xs)
-  own_pops port v most e pos = subst (λ n. Takes (IsBalanced fits) n v most (λ xs w. (w ≡ hand v.parts v.put (v.taken ++ xs)) × (length w.taken ≤ length w.put) × All fits xs)) (sym e) (pops fits v most pos)
+  pub own_pops : (port : ℕ) (v : Hand T) → port ≡ 0 → 0 < v.parts → Pops (IsBalanced fits) port v (λ xs w. (w ≡ hand v.parts v.put (v.taken ++ xs)) × (length w.taken ≤ length w.put) × All fits xs)
+  own_pops port v e pos = subst (λ n. Pops (IsBalanced fits) n v (λ xs w. (w ≡ hand v.parts v.put (v.taken ++ xs)) × (length w.taken ≤ length w.put) × All fits xs)) (sym e) (pops_last fits v pos)
 
   pub own_finds : (port : ℕ) (v : Hand T) → port ≡ 0 → Finds (IsBalanced fits) port v (v.parts ≡ PARTS → IsPermutation v.put v.taken)
   own_finds port v e = subst (λ n. Finds (IsBalanced fits) n v (v.parts ≡ PARTS → IsPermutation v.put v.taken)) (sym e) (finds fits v)

@@ -7,9 +7,9 @@ use Rattle.work_packets.specs.declared.packet.Packet.{Packet}
 use Rattle.steal_pool.specs.declared.rule.Hand.{Hand}
 
 module _ {T A P : Type 0} where
-  -- it is an owner's end of a first in, first out deque
+  -- it is an owner's end of a deque from which the owner takes what it put last
   abbrev pub IsOwner : Worker (Packet T) A (Hand T) P → Type 0
-  IsOwner w = (worker_port w ≡ 0) × (worker_flavor w ≡ 0) × (0 < (worker_view w).parts)
+  IsOwner w = (worker_port w ≡ 0) × (worker_flavor w ≡ 1) × (0 < (worker_view w).parts)
 
   -- the same deque, with the same parts
   abbrev pub Keeps : Worker (Packet T) A (Hand T) P → Worker (Packet T) A (Hand T) P → Type 0

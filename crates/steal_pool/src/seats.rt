@@ -48,7 +48,7 @@ fn open_seat<T: Drop, W: PacketWorker<T>, K: Fits<T>>(
         mut packets,
     } = share;
     let alloc = *packets.allocator();
-    let mut own: Own<T, K> = Own::fifo_as(alloc, CAPACITY)?;
+    let mut own: Own<T, K> = Own::lifo_as(alloc, CAPACITY)?;
     let thief = own.stealer()?;
     let mut backlog = Vec::new(alloc);
     let mut later = Vec::new(alloc);

@@ -12,7 +12,6 @@ use Rattle.shared_row.specs.contracts.shared_words.SharedWords as words
 use Rattle.shared_row.proofs.Leases.{right_shared}
 use Rattle.trace_table.specs.contracts.table.TraceTable as table
 use Rattle.trace_table.specs.contracts.table.WorkerSeat as worker
-use Rattle.trace_table.specs.contracts.tokens.GlobalRoot as root
 use Rattle.trace_table.specs.contracts.tokens.Grey as grey
 
 seat_is_sent : (V : RattleType) → IsSend (seat.the_row V)
@@ -33,9 +32,6 @@ table_is_looked_at = search parts depth 40
 
 pub worker_is_sent : IsSend worker.the_row
 worker_is_sent = search parts depth 40
-
-pub root_is_sent : IsSend root.the_row
-root_is_sent = search parts depth 40
 
 pub grey_is_sent : IsSend grey.the_row
 grey_is_sent = search parts depth 40

@@ -18,5 +18,6 @@ mod tests;
 mod tokens;
 
 pub use ends::all_seats_are_the_whole;
+pub use looking::MOST_AHEAD;
 pub use table::{TraceTable, WorkerSeat};
 pub use tokens::{Claim, GlobalRoot, Grey, Won};

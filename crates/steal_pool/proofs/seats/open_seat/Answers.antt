@@ -13,8 +13,8 @@ use Rattle.steal_pool.proofs.Opening.{in-order, begun}
 use Rattle.steal_pool.proofs.Rounds.{still-owner}
 use Rattle.steal_pool.proofs.seats.open_seat.Goals as goal
 
-pub fifo_as-requires : goal.fifo_as-requires
-fifo_as-requires g c = begins g.K.Fits.fits
+pub lifo_as-requires : goal.lifo_as-requires
+lifo_as-requires g c = begins g.K.Fits.fits
 
 pub hand_out-requires-clause-owner : goal.hand_out-requires-clause-owner
 hand_out-requires-clause-owner g c = let e = c.in_ok-own.ensures in (e.2, e.1, let parts = ap (λ (v : Hand g.row.T.Denot). v.parts) e.4 in omega arith)

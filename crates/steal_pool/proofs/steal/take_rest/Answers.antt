@@ -11,8 +11,8 @@ use Rattle.steal_pool.proofs.steal.take_rest.Goals as goal
 pub loop-p-init : goal.loop-p-init
 loop-p-init g c = record { owner = c.requires.owner; fit = c.requires.fit; put = refl; rest = ([], sym (append-nil _), sym (append-nil _)) }
 
-pub pop_as-requires-clause-fifo : goal.pop_as-requires-clause-fifo
-pop_as-requires-clause-fifo g c = λ _. own_pops g.K.Fits.fits _ _ 1 c.loop-p.invariant.owner.0.0 c.loop-p.invariant.owner.0.2
+pub pop_as-requires-clause-lifo : goal.pop_as-requires-clause-lifo
+pop_as-requires-clause-lifo g c = λ _. own_pops g.K.Fits.fits _ _ c.loop-p.invariant.owner.0.0 c.loop-p.invariant.owner.0.2
 
 pub pop_as-requires-clause-empty : goal.pop_as-requires-clause-empty
 pop_as-requires-clause-empty g c = own_finds g.K.Fits.fits _ _ c.loop-p.invariant.owner.0.0
