@@ -1,7 +1,8 @@
 -- The trace of `--make N`: its commands depend only on N.
 use Rattle.std.specs.Prelude.{ℕ, zero, suc, ◌+◌, ◌-◌, ◌*◌, ◌/◌, ◌%◌, ◌^◌, List, [], ◌∷◌, nat_lt, nat_eq, if◌then◌else◌}
 use Rattle.ideal_heap.specs.declared.command.Command.{Command}
-use Rattle.ideal_heap.specs.declared.command.Command.TheVariants.{New, Get, Put, Read, Write, Add, Swap, Move, DropReg, Load, Share, Pin, Gc}
+use Rattle.ideal_heap.specs.declared.command.Command.TheVariants.{New, Get, Put, Read, Write, Add, Swap, Move, DropReg}
+use Rattle.ideal_heap.specs.declared.command.Command.TheVariants.{Load, Share, Pin, Gc}
 
 -- A random command: from the generator's state before it is drawn, the command and the state after.
 abbrev pub Drawing : Type 0

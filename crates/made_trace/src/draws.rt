@@ -1,10 +1,12 @@
 //! Random commands.
 
-ghost use Rattle.std.specs.Prelude.{◌≡◌, ◌<◌, ◌/◌, ◌^◌, ℕ, MatchOption};
+ghost use Rattle.std.specs.Prelude.{◌≡◌, ◌<◌, ◌/◌, ◌^◌, ◌++◌, ◌∷◌, [], ℕ, MatchOption, IfSome, OnOk};
+ghost use Rattle.stored_commands.specs.Forms.{command_of};
 ghost use Rattle.made_trace.specs.Made.{next_state, draw_below, in_row, command_at};
 
-use ideal_heap::{GLOBALS, REGISTERS};
-use stored_commands::{Op, PackedCommand, VALUE_UNIT};
+use ideal_heap::{Command, GLOBALS, REGISTERS};
+use std::alloc::AllocError;
+use stored_commands::{Op, StoredTrace, VALUE_UNIT};
 
 const MULTIPLIER: u64 = 6_364_136_223_846_793_005;
 
@@ -202,6 +204,23 @@ fn number(state: u64) -> u32
     (state >> LOW_BITS) as u32
 }
 
+// What a command does, and its numbers.
+#[derive(Debug, Drop)]
+struct Numbers {
+    op: Op,
+    a: u8,
+    b: u16,
+    c: u32,
+}
+
+// A first number alone.
+#[inline(always)]
+fn alone(op: Op, a: u8) -> Numbers
+    ensures { result ≡ record { op = op; a = a; b = 0; c = 0 } }
+{
+    Numbers { op, a, b: 0, c: 0 }
+}
+
 /// The state of a linear congruential generator of 64 bits, with the constants of Knuth's MMIX.
 #[derive(Debug, Drop)]
 pub(crate) struct Draws {
@@ -211,8 +230,10 @@ pub(crate) struct Draws {
 impl Draws {
     // A random command. No branch depends on the draws: what they decide is read from a table.
     #[inline(always)]
-    fn random(&mut self) -> PackedCommand
-        ensures { (result, self.new.state) ≡ draw_below 16 in_row self.old.state }
+    fn random(&mut self) -> Numbers
+        ensures drawn { (command_of result.op result.a result.b result.c, self.new.state)
+            ≡ draw_below 16 in_row self.old.state }
+        ensures known { result.op ≡ Op.Other → ⊥ }
     {
         let row_state = next(self.state);
         let row = &TABLE[(number(row_state) % ROWS) as usize];
@@ -226,40 +247,50 @@ impl Draws {
         self.state = row_state
             .wrapping_mul(row.multiplier)
             .wrapping_add(row.increment);
-        PackedCommand::short(row.op, a as u8, b as u16, c + VALUE_UNIT * d)
+        Numbers {
+            op: row.op,
+            a: a as u8,
+            b: b as u16,
+            c: c + VALUE_UNIT * d,
+        }
     }
 
-    /// Command `k`, from 0 on.
+    /// Adds command `k`, from 0 on, to a trace.
     #[inline(always)]
-    pub(crate) fn command(&mut self, k: u32) -> PackedCommand
-        ensures { (result, self.new.state) ≡ command_at k self.old.state }
+    pub(crate) fn push_command(&mut self, k: u32, trace: &mut StoredTrace) -> Result<(), AllocError>
+        ensures { OnOk result ((c : Command) × (trace.new ≡ trace.old ++ c ∷ [])
+            × ((c, self.new.state) ≡ command_at k self.old.state)) }
     {
         if k % RESET_PERIOD <= GLOBALS_RESET {
-            if let Some(command) = fixed_command(k) {
-                return command;
+            if let Some(Numbers { op, a, b, c }) = fixed_command(k) {
+                trace.push_wide(op, a, b, c)?;
+                return Ok(());
             }
         }
-        self.random()
+        let Numbers { op, a, b, c } = self.random();
+        trace.push_wide(op, a, b, c)?;
+        Ok(())
     }
 }
 
 // Command `k`, if it is not random.
 #[cold]
 #[inline(never)]
-fn fixed_command(k: u32) -> Option<PackedCommand>
-    ensures { (x : ℕ) → MatchOption result (command_at k x ≡ draw_below 16 in_row x)
-        (λ c. (c, x) ≡ command_at k x) }
+fn fixed_command(k: u32) -> Option<Numbers>
+    ensures fixed { (x : ℕ) → MatchOption result (command_at k x ≡ draw_below 16 in_row x)
+        (λ c. (command_of c.op c.a c.b c.c, x) ≡ command_at k x) }
+    ensures known { IfSome result (λ c. c.op ≡ Op.Other → ⊥) }
 {
     let place = k % RESET_PERIOD;
     if place < REGISTERS_RESET {
-        return Some(PackedCommand::short(Op::DropReg, place as u8, 0, 0));
+        return Some(alone(Op::DropReg, place as u8));
     }
     if place < GLOBALS_RESET {
         let global = (place - REGISTERS_RESET) as u8;
-        return Some(PackedCommand::short(Op::Share, global, 0, 0));
+        return Some(alone(Op::Share, global));
     }
     if k % GC_PERIOD == GLOBALS_RESET {
-        return Some(PackedCommand::short(Op::Gc, 0, 0, 0));
+        return Some(alone(Op::Gc, 0));
     }
     None
 }

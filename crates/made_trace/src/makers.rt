@@ -33,9 +33,9 @@ pub fn made_stored(alloc: Global, n: u32) -> Result<StoredTrace, AllocError>
         state: u64::from(n),
     };
     let mut trace = StoredTrace::new(alloc);
-    trace.reserve(n as usize)?;
+    trace.reserve_wide(n as usize)?;
     for k in 0..n {
-        trace.push(draws.command(k))?;
+        draws.push_command(k, &mut trace)?;
     }
     Ok(trace)
 }

@@ -1,2 +1,4 @@
 mod Beside
+mod Shorts
+mod Parts
 mod Copies

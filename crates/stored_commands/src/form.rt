@@ -33,7 +33,31 @@ pub(crate) struct Form {
     pub(crate) c: u32,
 }
 
-/// The factor of the second value of a `swap`. The first is below it.
+/// A command with few bits, in 4 bytes: two numbers below `NUMBER_END` as the digits of `pair`, and
+/// one or two in `third`. `Other` has, as `pair` and `third`, the digits of the index of a command
+/// that does not fit, in a list beside these.
+#[derive(Debug, Drop)]
+pub(crate) struct Short {
+    pub(crate) op: Op,
+    pub(crate) pair: u8,
+    pub(crate) third: u16,
+}
+
+/// The factor of the second value of a `swap` in a form. The first is below it.
 pub const VALUE_UNIT: u32 = 65_536;
 
+/// The factor of the second of two numbers in `third`. The first is below it.
+pub(crate) const THIRD_UNIT: u32 = 4096;
+
+/// The end of the first and the second number of a command in 4 bytes.
+pub(crate) const NUMBER_END: u32 = 16;
+
+/// The end of `third`.
+pub(crate) const THIRD_END: u32 = 65_536;
+
+/// The factor of the second digit of the index of a command that does not fit into 4 bytes.
+pub(crate) const DIGIT_UNIT: u32 = 256;
+
 const _: () = prove!(size_of::<Form>() == 8);
+
+const _: () = prove!(size_of::<Short>() == 4);

@@ -1,11 +1,13 @@
-//! Traces as they are kept: most commands in 8 bytes, a quarter of what a `Command` takes.
+//! Traces as they are kept: most commands in 4 bytes, an eighth of what a `Command` takes.
 #![tactic(auto)]
 
 mod form;
 mod lists;
 mod packed_command;
+mod short_commands;
 mod stored_command;
 mod stored_trace;
+mod wide_commands;
 
 pub use form::{Op, VALUE_UNIT};
 pub use lists::{commands_of, stored_traces};

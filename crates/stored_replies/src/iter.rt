@@ -1,15 +1,18 @@
 //! Stored replies, one after another.
 
 ghost use Rattle.std.specs.Prelude.{◌≡◌};
+ghost use Rattle.ideal_heap.specs.Names.{name};
 ghost use Rattle.stored_replies.specs.Kinds.{unpacked, HasParts};
 
-use crate::reply_kind::ReplyKind;
+use crate::reply_kind::{NO_NAME, ReplyKind, next_after};
 use ideal_heap::{Name, Reply};
 use std::marker::Model;
 
 /// The replies that are left to read. Clauses see the list.
 #[derive(Debug, Drop)]
 pub struct Iter<'a> {
+    // The name in the last `new` that was read.
+    last: Name,
     kinds: &'a [ReplyKind],
     names: &'a [Name],
     numbers: &'a [u64],
@@ -22,7 +25,7 @@ impl<'a> Model for Iter<'a> {
 
     ghost Value = { List Reply };
 
-    ghost view = { λ s. unpacked s.kinds.now s.names.now s.numbers.now };
+    ghost view = { λ s. unpacked s.last s.kinds.now s.names.now s.numbers.now };
 
     ghost invariant = { λ s. HasParts s.kinds.now s.names.now s.numbers.now };
 }
@@ -32,9 +35,10 @@ impl<'a> Iter<'a> {
     #[inline(always)]
     pub(crate) fn new(kinds: &'a [ReplyKind], names: &'a [Name], numbers: &'a [u64]) -> Iter<'a>
         requires { HasParts kinds.now names.now numbers.now }
-        ensures { result ≡ unpacked kinds.now names.now numbers.now }
+        ensures { result ≡ unpacked (name 0 0) kinds.now names.now numbers.now }
     {
         Iter {
+            last: NO_NAME,
             kinds,
             names,
             numbers,
@@ -59,7 +63,12 @@ impl<'a> Iterator for Iter<'a> {
             ReplyKind::New => {
                 let (name, names) = self.names.split_first().unwrap();
                 self.names = names;
+                self.last = *name;
                 Reply::New(*name)
+            }
+            ReplyKind::Next => {
+                self.last = next_after(self.last);
+                Reply::New(self.last)
             }
             ReplyKind::Full => Reply::Full,
             ReplyKind::Ref => {

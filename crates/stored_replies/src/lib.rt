@@ -1,5 +1,5 @@
-//! Replies as they are kept: a byte is written for each, and 8 more for a name or a number, where a
-//! `Reply` takes 16.
+//! Replies as they are kept: a byte is written for each, and 8 more for a number, or for a name
+//! that is not the next after the last new one. A `Reply` takes 16.
 #![tactic(auto)]
 
 mod iter;

@@ -1,12 +1,13 @@
 //! Kinds of replies.
 
 ghost use Rattle.std.specs.Prelude.{◌≡◌, ◌<◌, ◌%◌, ◌^◌, ℕ, count_by, length, slice_index, sum};
-ghost use Rattle.stored_replies.specs.Kinds.{kind_of, is_full_kind, kind_index, is_of_index};
+ghost use Rattle.stored_replies.specs.Kinds.{kind_of, kind_after, is_next_kind, kind_index, is_of_index, next_name};
 
-use ideal_heap::Reply;
+use ideal_heap::{Name, Reply};
 
 /// What a reply is, without its name or number. `Range` stands first so that no kind has the tag of
-/// its reply: with equal tags LLVM jumps by the tag twice.
+/// its reply: with equal tags LLVM jumps by the tag twice. `Next` is a `new` whose name is the next
+/// after that of the `new` before it.
 #[derive(Clone, Copy, Debug)]
 pub enum ReplyKind {
     Range,
@@ -19,21 +20,45 @@ pub enum ReplyKind {
     Yes,
     No,
     Null,
+    Next,
 }
 
-/// The number of kinds.
+/// The number of kinds, where `New` and `Next` are one.
 pub const KINDS: usize = 10;
 
 const _: () = prove!(size_of::<ReplyKind>() == 1);
 
+/// Stands for the name of a `new` where none was yet.
+pub(crate) const NO_NAME: Name = Name {
+    mutator: 0,
+    birth: 0,
+};
+
+/// The name of the mutator's next object.
+#[inline(always)]
+pub(crate) fn next_after(name: Name) -> Name
+    ensures { result ≡ next_name name }
+{
+    Name {
+        mutator: name.mutator,
+        birth: name.birth.wrapping_add(1),
+    }
+}
+
 impl ReplyKind {
-    /// The kind of a reply.
+    /// The kind of a reply, if this is the name in the last `new` before it.
     #[inline(always)]
-    pub(crate) fn of(reply: &Reply) -> ReplyKind
-        ensures { result ≡ kind_of reply.now }
+    pub(crate) fn after(last: Name, reply: &Reply) -> ReplyKind
+        ensures { result ≡ kind_after last reply.now }
     {
         match reply {
-            Reply::New(_) => ReplyKind::New,
+            Reply::New(name) => {
+                if *name == next_after(last) {
+                    ReplyKind::Next
+                } else {
+                    ReplyKind::New
+                }
+            }
             Reply::Full => ReplyKind::Full,
             Reply::Ref(_) => ReplyKind::Ref,
             Reply::Nil => ReplyKind::Nil,
@@ -52,23 +77,19 @@ impl ReplyKind {
         ensures index { result ≡ kind_index self }
         ensures within { result < KINDS }
     {
-        self as usize
+        match self {
+            ReplyKind::Next => ReplyKind::New as usize,
+            _ => self as usize,
+        }
     }
 
-    /// Whether a reply of this kind is `full`.
+    /// Whether it is `Next`.
     #[inline(always)]
-    pub(crate) fn is_full(self) -> bool
-        ensures { result ≡ is_full_kind self }
+    pub(crate) fn is_next(self) -> bool
+        ensures { result ≡ is_next_kind self }
     {
-        matches!(self, ReplyKind::Full)
+        matches!(self, ReplyKind::Next)
     }
-}
-
-/// How many of the kinds are of the reply `full`.
-pub(crate) fn full_count(kinds: &[ReplyKind]) -> usize
-    ensures { result ≡ count_by is_full_kind kinds.now }
-{
-    kinds.iter().filter(|kind| kind.is_full()).count()
 }
 
 /// How many of the kinds have each index.

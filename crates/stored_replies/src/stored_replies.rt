@@ -5,36 +5,44 @@ ghost use Rattle.ideal_heap.specs.Runs.{is_full};
 ghost use Rattle.stored_replies.specs.Kinds.{is_of_kind, number_replied};
 
 use crate::iter::Iter;
-use crate::reply_kind::{KINDS, ReplyKind, full_count, index_counts, sum_of};
+use crate::reply_kind::{KINDS, NO_NAME, ReplyKind, index_counts, sum_of};
 use ideal_heap::{Name, Reply};
 use std::alloc::{AllocError, Global};
 use std::marker::Model;
 
-/// A list of replies with a capacity. For a reply a byte is written, and 8 more for its name or
-/// number. Clauses see the list, as `items`, and the capacity, in replies.
+/// A list of replies with a capacity. For a reply a byte is written, and 8 more for its number or
+/// its name, unless that is the next after the name in the `new` before. Clauses see the list, as
+/// `items`, and the capacity, in replies.
 #[derive(Debug, Drop)]
 pub struct StoredReplies {
     kinds: Vec<ReplyKind>,
-    // The names in the replies, and the numbers, each in the order of the replies.
+    // The name in the last `new`.
+    last: Name,
+    // The number of replies `full`.
+    fulls: usize,
+    // The names that are stored, and the numbers, each in the order of the replies.
     names: Vec<Name>,
     numbers: Vec<u64>,
 }
 
 impl Model for StoredReplies {
-    ghost use Rattle.std.specs.Prelude.{◌≡◌, vec_capacity};
-    ghost use Rattle.stored_replies.specs.Kinds.{unpacked, HasParts};
+    ghost use Rattle.std.specs.Prelude.{◌≡◌, count_by, vec_capacity};
+    ghost use Rattle.ideal_heap.specs.Names.{name};
+    ghost use Rattle.stored_replies.specs.Kinds.{is_full_kind, last_in, unpacked, HasParts};
     ghost use Rattle.stored_replies.specs.Replies.{Replies};
 
     ghost Value = { Replies };
 
     ghost view = { λ s. record {
-      items = unpacked s.kinds.items s.names.items s.numbers.items;
+      items = unpacked (name 0 0) s.kinds.items s.names.items s.numbers.items;
       capacity = vec_capacity s.kinds;
     } };
 
     ghost invariant = { λ s. HasParts s.kinds.items s.names.items s.numbers.items
         × (vec_capacity s.names ≡ vec_capacity s.kinds)
-        × (vec_capacity s.numbers ≡ vec_capacity s.kinds) };
+        × (vec_capacity s.numbers ≡ vec_capacity s.kinds)
+        × (s.last ≡ last_in (name 0 0) s.kinds.items s.names.items)
+        × (s.fulls ≡ count_by is_full_kind s.kinds.items) };
 }
 
 impl StoredReplies {
@@ -48,6 +56,8 @@ impl StoredReplies {
     {
         Ok(StoredReplies {
             kinds: Vec::with_capacity(alloc, capacity)?,
+            last: NO_NAME,
+            fulls: 0,
             names: Vec::with_capacity(alloc, capacity)?,
             numbers: Vec::with_capacity(alloc, capacity)?,
         })
@@ -61,11 +71,12 @@ impl StoredReplies {
         self.kinds.len()
     }
 
-    /// The number of replies `full`, from the bytes of their kinds alone.
+    /// The number of replies `full`, which is kept.
+    #[inline(always)]
     pub fn fulls(&self) -> usize
         ensures { result ≡ count_by is_full self.now.items }
     {
-        full_count(&self.kinds)
+        self.fulls
     }
 
     /// How many replies there are of each kind, from the bytes of their kinds alone.
@@ -91,9 +102,17 @@ impl StoredReplies {
         ensures items { self.new.items ≡ self.old.items ++ reply ∷ [] }
         ensures capacity { self.new.capacity ≡ self.old.capacity }
     {
-        self.kinds.push_reserved(ReplyKind::of(&reply));
+        let kind = ReplyKind::after(self.last, &reply);
+        self.kinds.push_reserved(kind);
         match reply {
-            Reply::New(name) | Reply::Ref(name) => self.names.push_reserved(name),
+            Reply::New(name) => {
+                self.last = name;
+                if !kind.is_next() {
+                    self.names.push_reserved(name);
+                }
+            }
+            Reply::Ref(name) => self.names.push_reserved(name),
+            Reply::Full => self.fulls += 1,
             Reply::Num(number) => self.numbers.push_reserved(number),
             _ => {}
         }

@@ -31,7 +31,7 @@ pub use limits::MAX_COMMANDS;
 pub use lines::command_of;
 pub use numerals::read_numeral;
 pub use printer::{
-    REPLY_BYTES, print_decimal, print_mutator, print_replies, print_reply, put_reply,
+    REPLY_BYTES, print_decimal, print_mutator, print_replies, print_reply, put_mutator, put_reply,
 };
 pub use reader::read_trace;
 pub use trace_reader::TraceReader;

@@ -89,7 +89,18 @@ pub fn print_decimal(number: u64, to: &mut Vec<u8>) -> Result<(), AllocError>
     Ok(())
 }
 
-/// Appends the line that precedes the replies of a mutator: `mutator` and its number.
+/// Appends the line that precedes the replies of a mutator, `mutator` and its number, to a text
+/// that has the capacity for `REPLY_BYTES` more bytes.
+pub fn put_mutator(mutator: u32, to: &mut Vec<u8>)
+    requires { vec_len to.old + REPLY_BYTES ≤ vec_capacity to.old }
+    ensures items { to.new.items ≡ to.old.items ++ ended (codes "mutator " ++ decimal mutator) }
+    ensures len { vec_len to.new ≤ vec_len to.old + REPLY_BYTES }
+    ensures capacity { vec_capacity to.old ≤ vec_capacity to.new }
+{
+    put_number(b"mutator ", u64::from(mutator), to);
+}
+
+/// Appends the line that precedes the replies of a mutator.
 ///
 /// Errors: out of memory; the text is then unchanged.
 pub fn print_mutator(mutator: u32, to: &mut Vec<u8>) -> Result<(), AllocError>
@@ -98,7 +109,7 @@ pub fn print_mutator(mutator: u32, to: &mut Vec<u8>) -> Result<(), AllocError>
     ensures same { OnErr result (to.new.items ≡ to.old.items) }
 {
     to.reserve(REPLY_BYTES)?;
-    put_number(b"mutator ", u64::from(mutator), to);
+    put_mutator(mutator, to);
     Ok(())
 }
 

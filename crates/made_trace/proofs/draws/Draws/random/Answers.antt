@@ -4,14 +4,13 @@ use Rattle.made_trace.specs.Made.{in_row}
 use Rattle.made_trace.proofs.Drawing.{rows-drawn, no-other}
 use Rattle.made_trace.proofs.draws.Draws.random.Goals as goal
 
-pub short-requires : goal.short-requires
-short-requires c = no-other (c.number.result % 16) (omega arith)
+pub returns-clause-known : goal.returns-clause-known
+returns-clause-known c = no-other (c.number.result % 16) (omega arith)
 
-pub returns : goal.returns
-returns c =
+pub returns-clause-drawn : goal.returns-clause-drawn
+returns-clause-drawn c =
     let x : ℕ = c.next-row_state.result in
     rw (
-      c.short.ensures,
       c.number-2.ensures.number,
       c.number-3.ensures.number,
       c.number-4.ensures.number,
