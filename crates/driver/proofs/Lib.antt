@@ -1,7 +1,8 @@
 mod MutatorReplies
+mod Sending
 mod Lines
 mod LivePlaces
-mod UnorderedPlaces
+mod LiveOrder
 mod LiveLists
 mod WorkedLives
 mod LiveNames

@@ -28,17 +28,6 @@ use Rattle.driver.specs.Reports.{place_in}
 abbrev pub no_place : Place
 no_place = record { name = name 0 0; at = 0; size = 0 }
 
-after-itself : (n : Name) → IsBefore n n → ⊥
-after-itself n before = elim before as (λ _. ⊥) [ inl less ↦ omega (arith, less) | inr same ↦ (let less : n.birth < n.birth = same.1 in omega (arith, less)) ]
-
--- the words of objects are the sum of the sizes of their places
-pub count-words : (s : HeapState) (places : List Place) → All (IsPlaceOfObject s) places → count_words_at s (addresses_of places) ≡ sum_by (λ p. p.size) places
-count-words s [] each = refl
-count-words s (p ∷ places) each =
-    let first : p.size ≡ size_at s p.at = (each 0 p (omega arith)).size in
-    let rest = count-words s places (λ k d low. each (suc k) d (omega (arith, low))) in
-    ap₂ (λ (a b : ℕ). a + b) (sym first) rest ∙ sym (sum_by-cons (λ (q : Place). q.size) p places)
-
 -- the line of a place is that of the object there
 pub place-is : (s : HeapState) (p : Place) → IsPlaceOfObject s p → place_line (place_in s.blocks p) ≡ map_line s p.at
 place-is s p is =
@@ -96,24 +85,6 @@ module _ (s : HeapState) (lawful : IsLawful s) (roots : List ℕ) (all : AreRoot
         ap (name_at s) (at-is j d low) ∙ sym (graph.each j no_place low).name in
         subst (λ (n : Name). IsBefore n (name_at s (slice_index_or (addresses_of places) j d))) (sym p)
         (subst (λ (n : Name). IsBefore (slice_index_or places i no_place).name n) (sym q) (graph.rise i j no_place less low))
-
-    apart : AllPairs (λ x y. x ≢ y) (addresses_of places)
-    apart i j d less low same =
-        let before = names-rise i j d less (within j low) in
-        let x : ℕ = slice_index_or (addresses_of places) i d in
-        after-itself (name_at s x) (subst (λ (y : ℕ). IsBefore (name_at s x) (name_at s y)) (sym same) before)
-
-    below : (q : ℕ) → list_any (nat_eq q) (addresses_of places) ≡ true → q < row_words s.blocks
-    below q there =
-        let found = Contains-from_any (λ x y e. eqb-true x y e) q (addresses_of places) there in
-        (reached-held q ((graph.reached q).1 found)).address.below
-
-    pub places-few : length places < 2 ^ 32
-    places-few =
-        let many : length (addresses_of places) ≤ row_words s.blocks = length-le_from_distinct_below (addresses_of places) (row_words s.blocks) (IsDistinct-from_AllPairs Decides-eqb (addresses_of places) apart) below in
-        let same = length-map places (λ p. p.at) in
-        let most = lawful.but_lines.order.row.most in
-        omega (arith, many, same, most)
 
     pub are-live : (last : Moment) → s ≡ last.heap → roots ≡ roots_of last.mutators → AreLive last (addresses_of places)
     are-live last is of = record {

@@ -9,7 +9,7 @@ use Rattle.trace_text.specs.Text.{mutator_text}
 use Rattle.sessions.specs.Sessions.{Moment}
 use Rattle.driver.specs.Texts.{replies_part}
 
-map-same : (xs : List ℕ) → map (λ x. x) xs ≡ xs
+pub map-same : (xs : List ℕ) → map (λ x. x) xs ≡ xs
 map-same [] = refl
 map-same (x ∷ xs) = ap (λ l. x ∷ l) (map-same xs)
 

@@ -1,6 +1,6 @@
 -- From reading, running and writing to a whole run.
-use Rattle.std.proofs.Common.{◌≡◌, sym, ◌∙◌, ap, subst, ℕ, ◌<◌, List, length}
-use Rattle.std.specs.Prelude.{Option, Some, IfSome, Result, Ok, Err, IfOk, option_map, slice_get, String, string_bytes}
+use Rattle.std.proofs.Common.{◌≡◌, sym, ◌∙◌, ap, subst, ℕ, ◌<◌, Bool, List, [], ◌++◌, length, append_assoc}
+use Rattle.std.specs.Prelude.{if◌then◌else◌, Option, Some, IfSome, Result, Ok, Err, IfOk, option_map, slice_get, String, string_bytes}
 use Rattle.std.specs.declared.alloc.Global.{Global}
 use Rattle.std.proofs.lemmas.List.{length-map}
 use Rattle.std.proofs.lemmas.Option.{none-some, slice_get_within}
@@ -11,7 +11,10 @@ use Rattle.command_line.specs.declared.order.Order.{Order}
 use Rattle.outside.specs.Outside.{SinkState, HasRisen, AppendsText, AppendsPrefix}
 use Rattle.sessions.specs.Plans.{Plan}
 use Rattle.sessions.specs.Sessions.{Moment}
-use Rattle.driver.specs.Texts.{IsSessionText, IsSummary}
+use Rattle.driver.specs.Texts.{IsReport, IsSessionText, IsSummary, map_part, replies_part, report_part}
+use Rattle.driver.specs.declared.writing.PrintFault.{PrintFault}
+use Rattle.driver.specs.declared.writing.PrintFault.TheVariants as fault
+use Rattle.driver.specs.Writing.{WritesTextBy}
 use Rattle.driver.specs.Printed.{Content, files_in, IsTextOf, IsWholeText, AreKnown, AreTracesOf, EndsAtFile, EndsAtKnown, Prints, PrintsPrefix}
 use Rattle.driver.proofs.JoinedFiles.{IsOffTrace, traces-clash, reported-clash}
 
@@ -42,6 +45,15 @@ pub text-of-files : (job : Job) (files : List (List ℕ)) (plan : Plan) (n : ℕ
 text-of-files job files plan n last text named work is =
     subst (λ (w : Work). IsTextOf job w n last text) (sym work) (subst (λ (x : Plan). IsSessionText x n job.map last text) (sym named) is)
 
+-- the replies, and then the report, are the text of the session
+pub with-replies : (plan : Plan) (n : ℕ) (has_map : Bool) (last : Moment) (report : List ℕ) → IsReport plan n has_map last report → IsSessionText plan n has_map last (replies_part n last ++ report)
+with-replies plan n has_map last report is = record {
+  live = is.live;
+  are = is.are;
+  printed = ap (λ (l : List ℕ). replies_part n last ++ l) is.printed
+      ∙ sym (append_assoc (replies_part n last) (report_part plan n last is.live) (if has_map then map_part last is.live else []));
+}
+
 pub text-of-made : (job : Job) (count n : ℕ) (last : Moment) (text : List ℕ) → job.work ≡ Made count → IsSummary count last text → IsTextOf job job.work n last text
 text-of-made job count n last text work is = subst (λ (w : Work). IsTextOf job w n last text) (sym work) is
 
@@ -53,6 +65,13 @@ prints content job ts text before after read printed written = record { traces =
 pub prints-prefix : (content : Content) (job : Job) (ts : List (List Command)) (text : List ℕ) (before after : SinkState)
     → AreTracesOf content job.work ts → IsWholeText job ts text → AppendsPrefix before.written after.written text → HasRisen before.faults after.faults → PrintsPrefix content job before after
 prints-prefix content job ts text before after read printed written risen = record { traces = ts; read = read; text = text; printed = printed; written = written; risen = risen }
+
+-- what is written is a text of which more holds
+pub writes-by : (r : Result (Unit {0}) PrintFault) (Is Was : List ℕ → Type 0) (before after : SinkState) → ((text : List ℕ) → Is text → Was text)
+    → WritesTextBy Is before after r → WritesTextBy Was before after r
+writes-by (Ok u) Is Was before after next writes = (writes.0, next writes.0 writes.1, writes.2)
+writes-by (Err fault.Unwritten) Is Was before after next writes = (writes.0, next writes.0 writes.1, writes.2, writes.3)
+writes-by (Err fault.OutOfMemory) Is Was before after next writes = writes
 
 -- what holds of an answer holds of what follows from it
 pub on-ok : {X E : Type 0} (r : Result X E) (P Q : X → Type 0) → ((x : X) → P x → Q x) → IfOk r P → IfOk r Q

@@ -3,6 +3,7 @@ pub mod Reports
 pub mod LiveNames
 pub mod MapPlaces
 pub mod Printed
+pub mod Writing
 pub mod Reading
 pub mod Statuses
 pub mod Exits

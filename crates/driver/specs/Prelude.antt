@@ -6,12 +6,13 @@ pub use Rattle.driver.specs.LiveNames.{AreLiveNames, count_words_named, heap_alo
 pub use Rattle.driver.specs.Printed.{AreTraces, AreTracesOf, AsksFirst, AsksPrefix, Content, EndsAtKnown, HasFault, HasTraces, IsBad, IsLong, IsNoTrace, IsTooLong, IsTraceIn, IsUsage, IsWholeText, IsWithinLimits, Prints, PrintsPrefix, Unread, WritesFaultLine, fault_line, file_line, job_files, line_fault, long_line, memory_line, setting_of, unread_line, usage_line, why_word, write_line}
 pub use Rattle.driver.specs.MapPlaces.{AreDisjoint, IsMapOf, LiesInBlocks}
 pub use Rattle.driver.specs.Reading.{AsksName, Halts, IsOneOf, fault_line_of, status_of}
-pub use Rattle.driver.specs.Reports.{AreLivePlaces, place_in, session_lines}
+pub use Rattle.driver.specs.Reports.{place_in, session_lines}
 pub use Rattle.driver.specs.Statuses.{status_number}
-pub use Rattle.driver.specs.Texts.{AreLive, IsSessionText, IsSummary, MapPlace, counts_part, held_line, kinds_line, live_line, map_line, map_part, place_line, place_of, replies_part, report_part, summary_part}
+pub use Rattle.driver.specs.Texts.{AreLive, IsReport, IsSessionText, IsSummary, MapPlace, counts_part, held_line, kinds_line, live_line, map_line, map_part, place_line, place_of, replies_part, report_part, summary_part}
 pub use Rattle.driver.specs.WorkedEnds.{each_kind, worked_end}
 pub use Rattle.driver.specs.WorkedReach.{place_at, worked_ideal, worked_map, worked_names, worked_trace}
 pub use Rattle.driver.specs.declared.status.Status.{Status}
+pub use Rattle.driver.specs.Writing.{WritesText, WritesTextBy}
 pub use Rattle.heap_graph.specs.Places.{IsPlaceOfObject, addresses_of}
 pub use Rattle.heap_layout.specs.Blocks.{code_of}
 pub use Rattle.heap_layout.specs.Zones.{IsAddress}
@@ -28,10 +29,9 @@ pub use Rattle.mm_runtime.specs.Managers.{Closes, ClosesSome, IsRunnableTrace, l
 pub use Rattle.object_model.specs.Counting.{count_words_at}
 pub use Rattle.object_model.specs.Graphs.{IsReachable, MutatorState, roots_of}
 pub use Rattle.object_model.specs.Heaps.{heap_state}
-pub use Rattle.object_model.specs.Lawful.{AreRoots}
-pub use Rattle.object_model.specs.Objects.{HeapState, empty_heap, name_at, record_at, size_at}
+pub use Rattle.object_model.specs.Objects.{HeapState, IsHeld, empty_heap, name_at, record_at, size_at}
 pub use Rattle.object_model.specs.WorkedHeaps.{build_heap, plain_object, unowned}
-pub use Rattle.outside.specs.Outside.{AppendsPrefix, Asked, HasRisen, SinkState, SourceState}
+pub use Rattle.outside.specs.Outside.{AppendsPrefix, AppendsText, Asked, HasRisen, SinkState, SourceState}
 pub use Rattle.sessions.specs.Plans.{GenCopy, NoGc, Plan, StickyImmix, rules_of}
 pub use Rattle.sessions.specs.Sessions.{IsSound, IsWhole, Moment, Setting, ideal_at}
 pub use Rattle.trace_text.specs.Grammar.{trace}

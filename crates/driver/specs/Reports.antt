@@ -1,6 +1,5 @@
 -- Parts of a report, and places of a map, as they are printed.
-use Rattle.std.specs.Prelude.{◌≡◌, ℕ, Bool, true, List, ◌++◌, length, count_by, codes}
-use Rattle.std.specs.List.Sorted.{IsPermutation}
+use Rattle.std.specs.Prelude.{ℕ, List, ◌++◌, length, count_by, codes}
 use Rattle.std.specs.Fmt.{decimal}
 use Rattle.heap_layout.specs.Zones.{block_at, offset_at}
 use Rattle.ideal_heap.specs.Runs.{is_full}
@@ -8,8 +7,6 @@ use Rattle.trace_text.specs.Text.{ended}
 use Rattle.sessions.specs.Plans.{Plan, plan_word}
 use Rattle.sessions.specs.Sessions.{Moment}
 use Rattle.heap_graph.specs.declared.place.Place.{Place}
-use Rattle.heap_graph.specs.Places.{IsGraphOf}
-use Rattle.object_model.specs.Objects.{HeapState}
 use Rattle.driver.specs.Texts.{MapPlace}
 
 -- what a report on a session of n mutators says of all but the heap
@@ -31,11 +28,3 @@ place_in b p = record {
   word = offset_at b p.at;
   size = p.size;
 }
-
--- the places are those of the objects that are reachable, for a map in rising order of names
-pub record AreLivePlaces (s : HeapState) (roots : List ℕ) (for_map : Bool) (places : List Place)
-    : Type 0 where
-  pub sorted : List Place
-  pub graph : IsGraphOf s roots sorted
-  pub same : IsPermutation places sorted
-  pub order : for_map ≡ true → places ≡ sorted

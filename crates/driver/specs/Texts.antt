@@ -87,6 +87,14 @@ map_line s a = place_line (place_of s a)
 abbrev pub map_part : Moment → List ℕ → List ℕ
 map_part last live = flat_map (map_line last.heap) live
 
+-- the text after the replies of a session with files; the map only if it is asked for
+pub record IsReport (plan : Plan) (n : ℕ) (has_map : Bool) (last : Moment) (text : List ℕ)
+    : Type 0 where
+  pub live : List ℕ
+  pub are : AreLive last live
+  pub printed : text ≡ report_part plan n last live
+      ++ (if has_map then map_part last live else [])
+
 -- the whole text of a session with files; the map only if it is asked for
 pub record IsSessionText (plan : Plan) (n : ℕ) (has_map : Bool) (last : Moment) (text : List ℕ)
     : Type 0 where

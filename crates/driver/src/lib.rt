@@ -13,6 +13,7 @@ mod status;
 mod summary;
 mod text_laws;
 mod traces;
+mod writing;
 
 pub use laws::{
     printed_of_one, replies_of_two, report_and_map, summary_of_each, summary_of_ok, texts_of_a_heap,

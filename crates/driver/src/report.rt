@@ -1,15 +1,15 @@
 //! The report on a session, and the map of its objects.
 
-ghost use Rattle.std.specs.Prelude.{◌≡◌, ◌^◌, ◌<◌, ◌++◌, ℕ, All, length, sum_by, codes, OnOk, IfOk};
+ghost use Rattle.std.specs.Prelude.{◌≡◌, ◌^◌, ◌<◌, ◌++◌, ℕ, All, length, codes, OnOk, IfOk};
 ghost use Rattle.std.specs.Fmt.{decimal};
 ghost use Rattle.std.specs.List.{flat_map};
-ghost use Rattle.driver.specs.Prelude.{Setting, Moment, Closes, ClosesSome, IsSessionText, IsPlaceOfObject, addresses_of, HeapState, heap_state, IsAddress, ended, session_lines, live_line, held_line, kinds_line, map_line, place_line, place_in, AreRoots, AreLivePlaces};
+ghost use Rattle.driver.specs.Prelude.{Setting, Moment, Closes, ClosesSome, IsSessionText, IsReport, IsPlaceOfObject, addresses_of, heap_state, IsAddress, ended, session_lines, live_line, held_line, kinds_line, map_line, place_line, place_in, IsHeld, count_words_at};
 
 use crate::session_runs::text_of_replies;
-use heap_graph::{Place, graph, reachable};
+use heap_graph::{Place, in_order, reachable};
 use heap_layout::{BLOCK_WORDS, Kind, Layout};
 use mm_runtime::Manager;
-use object_model::Heap;
+use object_model::{Heap, size_words};
 use plan_api::{Plan, block_counts};
 use std::alloc::{AllocError, Global};
 use trace_text::print_decimal;
@@ -73,38 +73,43 @@ fn print_session<P: Plan>(manager: &Manager<P>, to: &mut Vec<u8>) -> Result<(), 
     print_pair(b"collections nursery ", nursery, b" full ", full, to)
 }
 
-// The words of the objects at these places.
-fn words_at(places: &[Place]) -> u64
-    requires { length places.now < 2 ^ 32 }
-    ensures { result ≡ sum_by (λ p. p.size) places.now }
+// The words of the objects at these addresses.
+fn words_at(heap: &Heap, live: &[u32]) -> u64
+    requires few { length live.now < 2 ^ 32 }
+    requires held { All (IsHeld (heap_state heap.now)) live.now }
+    ensures { result ≡ count_words_at (heap_state heap.now) live.now }
 {
-    places.iter().map(|p| u64::from(p.size)).sum()
+    let mut words: u64 = 0;
+    for at in live {
+        words += u64::from(size_words(&heap.shape_at(*at)));
+    }
+    words
 }
 
 // Appends the count of live objects.
-pub(crate) fn print_live(live: &[Place], to: &mut Vec<u8>) -> Result<(), AllocError>
-    requires { length live.now < 2 ^ 32 }
-    ensures { (s : HeapState) → All (IsPlaceOfObject s) live.now
-        → OnOk result (to.new.items ≡ to.old.items ++ live_line s (addresses_of live.now)) }
+pub(crate) fn print_live(heap: &Heap, live: &[u32], to: &mut Vec<u8>) -> Result<(), AllocError>
+    requires few { length live.now < 2 ^ 32 }
+    requires held { All (IsHeld (heap_state heap.now)) live.now }
+    ensures { OnOk result (to.new.items ≡ to.old.items
+        ++ live_line (heap_state heap.now) live.now) }
 {
     print_pair(
         b"live objects ",
         live.len() as u64,
         b" words ",
-        words_at(live),
+        words_at(heap, live),
         to,
     )
 }
 
 // Appends the counts of live and of held objects.
-fn print_objects(heap: &Heap, live: &[Place], to: &mut Vec<u8>) -> Result<(), AllocError>
+fn print_objects(heap: &Heap, live: &[u32], to: &mut Vec<u8>) -> Result<(), AllocError>
     requires few { length live.now < 2 ^ 32 }
-    requires each { All (IsPlaceOfObject (heap_state heap.now)) live.now }
+    requires held { All (IsHeld (heap_state heap.now)) live.now }
     ensures { OnOk result (to.new.items ≡ to.old.items
-        ++ live_line (heap_state heap.now) (addresses_of live.now)
-        ++ held_line (heap_state heap.now)) }
+        ++ live_line (heap_state heap.now) live.now ++ held_line (heap_state heap.now)) }
 {
-    print_live(live, to)?;
+    print_live(heap, live, to)?;
     let (objects, words) = heap.held_count();
     print_pair(b"held objects ", u64::from(objects), b" words ", words, to)
 }
@@ -150,21 +155,30 @@ fn print_map(heap: &Heap, live: &[Place], to: &mut Vec<u8>) -> Result<(), AllocE
     Ok(())
 }
 
-// The places of the live objects, for a map in rising order of names.
-pub(crate) fn live_places(
+/// The report on a session so far, and the map if it is asked for: what follows the replies.
+///
+/// Fails if memory runs out.
+pub(crate) fn report_text<P: Plan>(
     alloc: Global,
-    heap: &Heap,
-    roots: &[u32],
-    for_map: bool,
-) -> Result<Vec<Place>, AllocError>
-    requires { AreRoots (heap_state heap.now) roots.now }
-    ensures { IfOk result (λ v. AreLivePlaces (heap_state heap.now) roots.now for_map v.items) }
+    manager: &Manager<P>,
+    has_map: bool,
+) -> Result<Vec<u8>, AllocError>
+    requires { ClosesSome P.rules manager.now }
+    ensures { (t : Setting) (last : Moment) → Closes P.rules manager.now t last
+        → IfOk result (λ v. IsReport P.plan (length t.traces) has_map last v.items) }
 {
-    if for_map {
-        graph(alloc, heap, roots)
-    } else {
-        reachable(alloc, heap, roots)
+    let heap = manager.heap();
+    let registers = manager.registers()?;
+    let live = reachable(alloc, heap, &registers)?;
+    let mut text = Vec::new(alloc);
+    print_session(manager, &mut text)?;
+    print_objects(heap, &live, &mut text)?;
+    print_kinds(heap, &mut text)?;
+    if has_map {
+        let places = in_order(alloc, heap, &live)?;
+        print_map(heap, &places, &mut text)?;
     }
+    Ok(text)
 }
 
 /// The text of a session so far: the replies of each mutator, the report, and the map if it is
@@ -180,15 +194,8 @@ pub fn session_text<P: Plan>(
     ensures { (t : Setting) (last : Moment) → Closes P.rules manager.now t last
         → IfOk result (λ v. IsSessionText P.plan (length t.traces) has_map last v.items) }
 {
-    let heap = manager.heap();
-    let registers = manager.registers()?;
-    let live = live_places(alloc, heap, &registers, has_map)?;
     let mut text = text_of_replies(alloc, manager)?;
-    print_session(manager, &mut text)?;
-    print_objects(heap, &live, &mut text)?;
-    print_kinds(heap, &mut text)?;
-    if has_map {
-        print_map(heap, &live, &mut text)?;
-    }
+    let report = report_text(alloc, manager, has_map)?;
+    text.extend_from_slice(&report)?;
     Ok(text)
 }

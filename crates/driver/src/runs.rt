@@ -7,11 +7,12 @@ use crate::fault_lines::{
     write_length_fault, write_memory_fault, write_output_fault, write_read_fault,
     write_trace_fault, write_usage_fault,
 };
-use crate::session_runs::text_of_session;
+use crate::session_runs::write_text_of_session;
 use crate::status::Status;
 use crate::traces::{FileFault, FilesFault, traces_of_order};
+use crate::writing::PrintFault;
 use command_line::{Order, Target, read_words};
-use outside::{Sink, Sources, write_text};
+use outside::{Sink, Sources};
 use std::alloc::Global;
 use std::thread::Threads;
 use work_packets::Gate;
@@ -51,8 +52,8 @@ fn write_files_fault<E: Sink>(err: &mut E, files: &[String], first: FilesFault)
 /// Runs the program. `words` are the arguments after the program's name.
 ///
 /// It parses the arguments. Then it opens and reads each file in turn, and checks its length and
-/// its grammar. Then it runs the traces, and builds the whole text before the first write. The
-/// first fault ends the run, with its `Status` and one line on standard error.
+/// its grammar. Then it runs the traces, and takes all memory that it needs before the first write.
+/// The first fault ends the run, with its `Status` and one line on standard error.
 pub fn run<R: Threads + Sync, S: Sources, O: Sink, E: Sink, G: Gate>(
     rt: &R,
     alloc: Global,
@@ -151,13 +152,15 @@ pub fn run<R: Threads + Sync, S: Sources, O: Sink, E: Sink, G: Gate>(
             return first.fault.status();
         }
     };
-    let Ok(text) = text_of_session(rt, alloc, &order, traces, gate) else {
-        write_memory_fault(err);
-        return Status::OutOfMemory;
-    };
-    if write_text(out, &text).is_err() {
-        write_output_fault(err);
-        return Status::WriteFault;
+    match write_text_of_session(rt, alloc, &order, traces, out, gate) {
+        Ok(()) => Status::Ok,
+        Err(PrintFault::OutOfMemory) => {
+            write_memory_fault(err);
+            Status::OutOfMemory
+        }
+        Err(PrintFault::Unwritten) => {
+            write_output_fault(err);
+            Status::WriteFault
+        }
     }
-    Status::Ok
 }

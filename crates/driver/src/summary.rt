@@ -5,7 +5,8 @@ ghost use Rattle.std.specs.Fmt.{decimal};
 ghost use Rattle.std.specs.List.{flat_map};
 ghost use Rattle.driver.specs.Prelude.{AnyReply, Setting, Moment, Closes, ClosesSome, IsSummary, AreLive, AreCounts, counts_part, live_line, ended};
 
-use crate::report::{live_places, print_line, print_live, print_pair};
+use crate::report::{print_line, print_live, print_pair};
+use heap_graph::reachable;
 use made_trace::ReplyCounts;
 use mm_runtime::Manager;
 use plan_api::Plan;
@@ -58,8 +59,9 @@ fn print_live_of<P: Plan>(
         × (to.new.items ≡ to.old.items ++ live_line last.heap live)) }
 {
     let registers = manager.registers()?;
-    let live = live_places(alloc, manager.heap(), &registers, false)?;
-    print_live(&live, to)
+    let heap = manager.heap();
+    let live = reachable(alloc, heap, &registers)?;
+    print_live(heap, &live, to)
 }
 
 /// The summary of a session of a made trace of so many commands.

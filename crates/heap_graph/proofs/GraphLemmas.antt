@@ -83,26 +83,25 @@ names-differ s order places held each apart i j d less inside =
     let names : name_at s p.at ≡ name_at s q.at = sym (each i d before).name ∙ same ∙ (each j d inside).name in
     AllPairs-from_IsDistinct Decides-eqb (addresses_of places) apart i j 0 less far (p_at ∙ order.objects.names p.at q.at p_held q_held names ∙ sym q_at)
 
-pub are-reached : (s : HeapState) → (roots first second : List ℕ) (found : List Place)
-    → Adds (λ i. slice_index roots i) (length roots) [] first → Adds (global_at s) 16 first second → ClosesFields s (length (addresses_of found)) second (addresses_of found)
-    → All (IsHeld s) (addresses_of found) → All (IsPlaceOfObject s) found → IsDistinct nat_eq (addresses_of found)
+pub are-reached : (s : HeapState) → (roots first second found : List ℕ)
+    → Adds (λ i. slice_index roots i) (length roots) [] first → Adds (global_at s) 16 first second → ClosesFields s (length found) second found
+    → All (IsHeld s) found → IsDistinct nat_eq found
     → AreReached s roots found
-are-reached s roots first second found from_roots from_globals closes held each apart = record {
+are-reached s roots first second found from_roots from_globals closes held apart = record {
   reached = λ a. (
-    arrives-contained s roots first second (addresses_of found) from_roots from_globals closes a,
-    contained-arrives s roots first second (addresses_of found) from_roots from_globals closes a,
+    arrives-contained s roots first second found from_roots from_globals closes a,
+    contained-arrives s roots first second found from_roots from_globals closes a,
   );
   held = held;
-  each = each;
   apart = apart;
 }
 
-pub is-graph : (s : HeapState) → IsWellFormed s → (roots : List ℕ) (found places : List Place) → AreReached s roots found
+pub is-graph : (s : HeapState) → IsWellFormed s → (roots : List ℕ) (found places : List Place) → AreReached s roots (addresses_of found) → All (IsPlaceOfObject s) found
     → IsPermutation found places → IsSortedByKey (λ p. p.name) compare places
     → IsGraphOf s roots places
-is-graph s order roots found places all moved sorted =
+is-graph s order roots found places all each moved sorted =
     let moved_addresses : IsPermutation (addresses_of found) (addresses_of places) = IsPermutation-map (λ p. p.at) found places moved in
-    let placed : All (IsPlaceOfObject s) places = All-permutation (IsPlaceOfObject s) found places moved all.each in
+    let placed : All (IsPlaceOfObject s) places = All-permutation (IsPlaceOfObject s) found places moved each in
     let differ : AllPairs (λ p q. p.name ≢ q.name) places = names-differ s order places (All-permutation (IsHeld s) _ _ moved_addresses all.held) placed
     (IsDistinct-IsPermutation nat_eq nat_eq_equiv.symm _ _ moved_addresses all.apart) in
     record {

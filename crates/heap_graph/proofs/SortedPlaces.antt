@@ -1,18 +1,20 @@
--- Reached places have an order of rising names.
-use Rattle.std.proofs.Common.{add-one, ◌≡◌, ap, inl, inr, ◌∙◌, ℕ, zero, suc, ◌+◌, ◌<◌, arith, Bool, true, false, List, [], ◌∷◌, length, slice_index_or}
+-- Reached objects have an order of rising names.
+use Rattle.std.proofs.Common.{add-one, ◌≡◌, refl, sym, subst, map, ap, inl, inr, ◌∙◌, ℕ, zero, suc, ◌+◌, ◌<◌, arith, Bool, true, false, List, [], ◌∷◌, length, slice_index_or}
 use Rattle.std.specs.Prelude.{⊤}
 use Rattle.std.specs.Ordering.{is_lt}
 use Rattle.std.specs.Cmp.{IsTotalOrder}
+use Rattle.std.specs.List.{All}
+use Rattle.std.proofs.lemmas.List.Elements.{All-cons, All-nil}
 use Rattle.std.specs.List.Sorted.{IsPermutation, IsSortedByKey}
 use Rattle.std.proofs.lemmas.Bool.{cases_Bool}
 use Rattle.std.proofs.lemmas.Cmp.{nat_cmp_total, on_total, then_total}
-use Rattle.std.proofs.lemmas.List.Sorted.{IsPermutation-refl, IsPermutation-trans, IsPermutation-cons, IsPermutation-middle, ranks_by}
+use Rattle.std.proofs.lemmas.List.Sorted.{IsPermutation-refl, IsPermutation-trans, IsPermutation-cons, IsPermutation-middle, IsPermutation-map, ranks_by}
 use Rattle.ideal_heap.specs.declared.name.Name.{Name}
 use Rattle.ideal_heap.proofs.NameLemmas.{compare}
 use Rattle.heap_graph.specs.declared.place.Place.{Place}
-use Rattle.object_model.specs.Objects.{HeapState}
+use Rattle.object_model.specs.Objects.{HeapState, name_at, size_at}
 use Rattle.object_model.specs.Lawful.{IsWellFormed}
-use Rattle.heap_graph.specs.Places.{AreReached, IsGraphOf}
+use Rattle.heap_graph.specs.Places.{AreReached, IsGraphOf, IsPlaceOfObject, addresses_of}
 use Rattle.heap_graph.proofs.GraphLemmas.{is-graph}
 
 abbrev is_less : Place → Place → Bool
@@ -67,9 +69,25 @@ sorted ps up k d from low =
     let next : k + 1 ≡ suc k = add-one k in
     ap (λ n. is_less (slice_index_or ps n d) (slice_index_or ps k d)) next ∙ next-after ps up k d (omega (arith, low, next))
 
--- reached places in rising order of names are the graph
-pub graph-of-reached : (s : HeapState) → IsWellFormed s → (roots : List ℕ) (found : List Place) → AreReached s roots found
-    → (places : List Place) × IsPermutation found places × IsGraphOf s roots places
+abbrev place_of_object : HeapState → ℕ → Place
+place_of_object s a = record { name = name_at s a; at = a; size = size_at s a }
+
+addresses-there : (s : HeapState) (xs : List ℕ) → addresses_of (map (place_of_object s) xs) ≡ xs
+addresses-there s [] = refl
+addresses-there s (x ∷ xs) = ap (λ l. x ∷ l) (addresses-there s xs)
+
+places-there : (s : HeapState) (xs : List ℕ) → All (IsPlaceOfObject s) (map (place_of_object s) xs)
+places-there s [] = All-nil (IsPlaceOfObject s)
+places-there s (x ∷ xs) = All-cons (IsPlaceOfObject s) (place_of_object s x) (map (place_of_object s) xs) (record { name = refl; size = refl }) (places-there s xs)
+
+-- reached objects in rising order of names are the graph
+pub graph-of-reached : (s : HeapState) → IsWellFormed s → (roots found : List ℕ) → AreReached s roots found
+    → (places : List Place) × IsPermutation found (addresses_of places) × IsGraphOf s roots places
 graph-of-reached s order roots found all =
-    let found_in_order = in-order found in
-    (found_in_order.0, found_in_order.1, is-graph s order roots found found_in_order.0 all found_in_order.1 (sorted found_in_order.0 found_in_order.2))
+    let places : List Place = map (place_of_object s) found in
+    let up = in-order places in
+    let same : addresses_of places ≡ found = addresses-there s found in (
+      up.0,
+      subst (λ l. IsPermutation l (addresses_of up.0)) same (IsPermutation-map (λ p. p.at) places up.0 up.1),
+      is-graph s order roots places up.0 (subst (AreReached s roots) (sym same) all) (places-there s found) up.1 (sorted up.0 up.2),
+    )

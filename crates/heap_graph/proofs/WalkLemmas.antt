@@ -1,7 +1,7 @@
 -- What a walk has visited, as addresses are appended.
 use Rattle.std.proofs.Common.{◌≡◌, ◌≢◌, refl, sym, ◌∙◌, ap, subst, ℕ, ◌+◌, ◌<◌, ◌≤◌, inl, inr, arith, Bool, true, false, ◌||◌, List, [], ◌∷◌, ◌++◌, length, slice_index, slice_index_or, nat_eq, IsTrue, append_assoc}
 use Rattle.std.specs.List.{All, IsDistinct, list_any}
-use Rattle.std.proofs.lemmas.List.{append-nil, map-append, length-map, get_or-map, length-append}
+use Rattle.std.proofs.lemmas.List.{append-nil, get_or_default, length-append}
 use Rattle.std.proofs.Math.ListN.{get_or-append}
 use Rattle.std.proofs.lemmas.List.Elements.{All-append, All-cons, All-nil, All-weaker, All-push, All-get_or}
 use Rattle.std.proofs.lemmas.List.Folds.{list_any-append}
@@ -11,13 +11,11 @@ use Rattle.std.proofs.lemmas.Map.Views.{Contains-from_any}
 use Rattle.std.proofs.lemmas.Cmp.{nat_eq_equiv}
 use Rattle.std.proofs.lemmas.Bool.{cases_eq, cases_lt, eq-eqb, eqb-true, ne_eqb}
 use Rattle.heap_layout.specs.Zones.{IsAddress, row_words}
-use Rattle.heap_graph.specs.declared.place.Place.{Place}
 use Rattle.heap_graph.specs.declared.walk.Walk.{Walk}
 use Rattle.heap_graph.specs.AddressSets.{has_address}
 use Rattle.object_model.specs.Objects.{HeapState, IsHeld, refs_at, ref_at}
 use Rattle.object_model.specs.Graphs.{IsReachable, from_field}
 use Rattle.object_model.proofs.References.{refers}
-use Rattle.heap_graph.specs.Places.{IsPlaceOfObject, addresses_of}
 use Rattle.heap_graph.specs.Walks.{met, is_among, IsWalk, Adds, HasFields, ClosesFields}
 
 -- an address in the list stays in it
@@ -121,11 +119,8 @@ closes-next s n a old mid new inside is first last =
 
 -- the walk itself
 
-pub met-length : (w : Walk) → length (met w) ≡ length w.places.items
-met-length w = simp length-map
-
-pub met-at : (w : Walk) (k : ℕ) (p : Place) → k < length w.places.items → p ≡ slice_index_or w.places.items k p → p.at ≡ slice_index (met w) k
-met-at w k p inside is = ap (λ x. x.at) is ∙ sym (get_or-map (λ x. x.at) w.places.items k p 0 inside)
+pub met-at : (w : Walk) (k a : ℕ) → k < length (met w) → a ≡ slice_index_or (met w) k a → a ≡ slice_index (met w) k
+met-at w k a inside is = is ∙ sym (get_or_default (met w) k 0 a inside)
 
 -- it visits at most as many objects as the row has words
 pub met-most : (s : HeapState) (w : Walk) → IsWalk s w → length (met w) ≤ row_words s.blocks
@@ -134,51 +129,42 @@ met-most s w walk = length-le_from_distinct_below (met w) (row_words s.blocks) w
     let held : IsHeld s (slice_index_or (met w) place.0 q) = walk.held place.0 q place.1 in
     subst (λ x. x < row_words s.blocks) place.2 held.address.below)
 
-pub walk-empty : (s : HeapState) (w : Walk) → w.places.items ≡ [] → w.visited.layout.blocks ≡ s.blocks → ((a : ℕ) → has_address w.visited a ≡ false) → IsWalk s w
+pub walk-empty : (s : HeapState) (w : Walk) → met w ≡ [] → w.visited.layout.blocks ≡ s.blocks → ((a : ℕ) → has_address w.visited a ≡ false) → IsWalk s w
 walk-empty s w none blocks empty = record {
   blocks = blocks;
-  visited = λ a at. empty a ∙ ap (λ l. is_among (addresses_of l) a) (sym none);
-  held = subst (λ l. All (IsHeld s) (addresses_of l)) (sym none) (All-nil (IsHeld s));
-  each = subst (λ l. All (IsPlaceOfObject s) l) (sym none) (All-nil (IsPlaceOfObject s));
-  apart = subst (λ l. IsDistinct nat_eq (addresses_of l)) (sym none) distinct-none;
+  visited = λ a at. empty a ∙ ap (λ l. is_among l a) (sym none);
+  held = subst (All (IsHeld s)) (sym none) (All-nil (IsHeld s));
+  apart = subst (IsDistinct nat_eq) (sym none) distinct-none;
 }
 
-pub walk-known : (s : HeapState) (w w' : Walk) (a : ℕ) → IsWalk s w → w'.places.items ≡ w.places.items → w'.visited.layout.blocks ≡ w.visited.layout.blocks
+pub walk-known : (s : HeapState) (w w' : Walk) (a : ℕ) → IsWalk s w → met w' ≡ met w → w'.visited.layout.blocks ≡ w.visited.layout.blocks
     → has_address w.visited a ≡ true → has_address w'.visited a ≡ true → ((x : ℕ) → IsAddress w.visited.layout.blocks x → x ≢ a → has_address w'.visited x ≡ has_address w.visited x)
     → IsWalk s w'
-walk-known s w w' a walk places blocks had has' others = record {
+walk-known s w w' a walk same_met blocks had has' others = record {
   blocks = blocks ∙ walk.blocks;
   visited = λ x at. elim (cases_eq x a) as (λ _. has_address w'.visited x ≡ is_among (met w') x) [
-    | inl same ↦ ap (has_address w'.visited) same ∙ has' ∙ sym had ∙ ap (has_address w.visited) (sym same) ∙ walk.visited x at ∙ ap (λ l. is_among (addresses_of l) x) (sym places)
-    | inr other ↦ others x (subst (λ b. IsAddress b x) (sym walk.blocks) at) other ∙ walk.visited x at ∙ ap (λ l. is_among (addresses_of l) x) (sym places)
+    | inl same ↦ ap (has_address w'.visited) same ∙ has' ∙ sym had ∙ ap (has_address w.visited) (sym same) ∙ walk.visited x at ∙ ap (λ l. is_among l x) (sym same_met)
+    | inr other ↦ others x (subst (λ b. IsAddress b x) (sym walk.blocks) at) other ∙ walk.visited x at ∙ ap (λ l. is_among l x) (sym same_met)
   ];
-  held = subst (λ l. All (IsHeld s) (addresses_of l)) (sym places) walk.held;
-  each = subst (λ l. All (IsPlaceOfObject s) l) (sym places) walk.each;
-  apart = subst (λ l. IsDistinct nat_eq (addresses_of l)) (sym places) walk.apart;
+  held = subst (All (IsHeld s)) (sym same_met) walk.held;
+  apart = subst (IsDistinct nat_eq) (sym same_met) walk.apart;
 }
 
-met-pushed : (places : List Place) (p : Place) → addresses_of (places ++ p ∷ []) ≡ addresses_of places ++ p.at ∷ []
-met-pushed places p = map-append (λ x. x.at) places (p ∷ [])
+pub adds-address : (w w' : Walk) (a : ℕ) → a ≢ 0 → met w' ≡ met w ++ a ∷ [] → Adds (λ _. a) 1 (met w) (met w')
+adds-address w w' a some now = subst (Adds (λ _. a) 1 (met w)) (sym now) (adds-pushed (met w) a some)
 
-pub adds-place : (w w' : Walk) (p : Place) → p.at ≢ 0 → w'.places.items ≡ w.places.items ++ p ∷ [] → Adds (λ _. p.at) 1 (met w) (met w')
-adds-place w w' p some places =
-    let now : met w' ≡ met w ++ p.at ∷ [] = ap addresses_of places ∙ met-pushed w.places.items p in
-    subst (Adds (λ _. p.at) 1 (met w)) (sym now) (adds-pushed (met w) p.at some)
-
-pub walk-pushed : (s : HeapState) (w w' : Walk) (p : Place) → IsWalk s w → IsHeld s p.at → IsPlaceOfObject s p → w'.places.items ≡ w.places.items ++ p ∷ []
-    → w'.visited.layout.blocks ≡ w.visited.layout.blocks → has_address w.visited p.at ≡ false → has_address w'.visited p.at ≡ true
-    → ((x : ℕ) → IsAddress w.visited.layout.blocks x → x ≢ p.at → has_address w'.visited x ≡ has_address w.visited x)
+pub walk-pushed : (s : HeapState) (w w' : Walk) (a : ℕ) → IsWalk s w → IsHeld s a → met w' ≡ met w ++ a ∷ []
+    → w'.visited.layout.blocks ≡ w.visited.layout.blocks → has_address w.visited a ≡ false → has_address w'.visited a ≡ true
+    → ((x : ℕ) → IsAddress w.visited.layout.blocks x → x ≢ a → has_address w'.visited x ≡ has_address w.visited x)
     → IsWalk s w'
-walk-pushed s w w' p walk held place places blocks had has' others =
-    let now : met w' ≡ met w ++ p.at ∷ [] = ap addresses_of places ∙ met-pushed w.places.items p in
-    let new : is_among (met w) p.at ≡ false = sym (walk.visited p.at held.address) ∙ had in
+walk-pushed s w w' a walk held now blocks had has' others =
+    let new : is_among (met w) a ≡ false = sym (walk.visited a held.address) ∙ had in
     record {
       blocks = blocks ∙ walk.blocks;
-      visited = λ x at. elim (cases_eq x p.at) as (λ _. has_address w'.visited x ≡ is_among (met w') x) [
-        | inl same ↦ ap (has_address w'.visited) same ∙ has' ∙ sym (among-pushed (met w) p.at) ∙ ap (is_among (met w ++ p.at ∷ [])) (sym same) ∙ ap (λ l. is_among l x) (sym now)
-        | inr other ↦ others x (subst (λ b. IsAddress b x) (sym walk.blocks) at) other ∙ walk.visited x at ∙ sym (among-other (met w) p.at x other) ∙ ap (λ l. is_among l x) (sym now)
+      visited = λ x at. elim (cases_eq x a) as (λ _. has_address w'.visited x ≡ is_among (met w') x) [
+        | inl same ↦ ap (has_address w'.visited) same ∙ has' ∙ sym (among-pushed (met w) a) ∙ ap (is_among (met w ++ a ∷ [])) (sym same) ∙ ap (λ l. is_among l x) (sym now)
+        | inr other ↦ others x (subst (λ b. IsAddress b x) (sym walk.blocks) at) other ∙ walk.visited x at ∙ sym (among-other (met w) a x other) ∙ ap (λ l. is_among l x) (sym now)
       ];
-      held = subst (All (IsHeld s)) (sym now) (All-push (IsHeld s) (met w) p.at walk.held held);
-      each = subst (All (IsPlaceOfObject s)) (sym places) (All-push (IsPlaceOfObject s) w.places.items p walk.each place);
-      apart = subst (IsDistinct nat_eq) (sym now) (IsDistinct-push nat_eq_equiv (met w) p.at walk.apart new);
+      held = subst (All (IsHeld s)) (sym now) (All-push (IsHeld s) (met w) a walk.held held);
+      apart = subst (IsDistinct nat_eq) (sym now) (IsDistinct-push nat_eq_equiv (met w) a walk.apart new);
     }

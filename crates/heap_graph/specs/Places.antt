@@ -14,12 +14,11 @@ pub record IsPlaceOfObject (s : HeapState) (p : Place) : Type 0 where
   pub name : p.name ≡ name_at s p.at
   pub size : p.size ≡ size_at s p.at
 
--- the places are those of all reachable objects and of no others, each once, in any order
-pub record AreReached (s : HeapState) (roots : List ℕ) (places : List Place) : Type 0 where
-  pub reached : (a : ℕ) → IsReachable s roots a ↔ Contains (addresses_of places) a
-  pub held : All (IsHeld s) (addresses_of places)
-  pub each : All (IsPlaceOfObject s) places
-  pub apart : IsDistinct nat_eq (addresses_of places)
+-- the addresses are those of all reachable objects and of no others, each once, in any order
+pub record AreReached (s : HeapState) (roots addresses : List ℕ) : Type 0 where
+  pub reached : (a : ℕ) → IsReachable s roots a ↔ Contains addresses a
+  pub held : All (IsHeld s) addresses
+  pub apart : IsDistinct nat_eq addresses
 
 -- The places are those of all reachable objects and of no others, each once, in rising order of
 -- names.

@@ -6,21 +6,19 @@ use Rattle.heap_graph.specs.declared.walk.Walk.{Walk}
 use Rattle.heap_graph.specs.AddressSets.{has_address}
 use Rattle.object_model.specs.Objects.{HeapState, IsHeld, refs_at, ref_at}
 use Rattle.object_model.specs.Graphs.{IsReachable}
-use Rattle.heap_graph.specs.Places.{IsPlaceOfObject, addresses_of}
 
 -- the addresses that the walk has visited, in order
 abbrev pub met : Walk → List ℕ
-met w = addresses_of w.places.items
+met w = w.addresses.items
 
 abbrev pub is_among : List ℕ → ℕ → Bool
 is_among xs a = list_any (nat_eq a) xs
 
--- The places are those of different held objects, and the set has their addresses and no others.
+-- The objects are held and different, and the set has their addresses and no others.
 pub record IsWalk (s : HeapState) (w : Walk) : Type 0 where
   pub blocks : w.visited.layout.blocks ≡ s.blocks
   pub visited : (a : ℕ) → IsAddress s.blocks a → has_address w.visited a ≡ is_among (met w) a
   pub held : All (IsHeld s) (met w)
-  pub each : All (IsPlaceOfObject s) w.places.items
   pub apart : IsDistinct nat_eq (met w)
 
 -- Addresses are appended, each of them one of f 0 to f (n - 1) and not nil. Of f 0 to f (n - 1),

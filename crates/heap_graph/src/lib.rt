@@ -6,5 +6,5 @@ mod object_graph;
 mod place;
 mod walk;
 
-pub use object_graph::{graph, reachable};
+pub use object_graph::{graph, in_order, reachable};
 pub use place::Place;

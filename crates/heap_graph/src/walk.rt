@@ -7,15 +7,14 @@ ghost use Rattle.object_model.specs.Lawful.{AreRoots, IsRoot};
 ghost use Rattle.heap_graph.specs.Walks.{met, IsWalk, Adds, ClosesFields};
 
 use crate::address_set::AddressSet;
-use crate::place::Place;
 use heap_layout::GLOBALS;
-use object_model::{Heap, size_words};
+use object_model::Heap;
 use std::alloc::{AllocError, Global};
 
 /// The objects visited so far. Those whose fields have not been read yet come last.
 #[derive(Debug, Drop)]
 pub(crate) struct Walk {
-    places: Vec<Place>,
+    addresses: Vec<u32>,
     visited: AddressSet,
 }
 
@@ -36,7 +35,7 @@ impl Walk {
     {
         let visited = AddressSet::new(alloc, heap.layout())?;
         Ok(Walk {
-            places: Vec::new(alloc),
+            addresses: Vec::new(alloc),
             visited,
         })
     }
@@ -54,11 +53,7 @@ impl Walk {
         if !self.visited.insert(address) {
             return Ok(());
         }
-        self.places.push(Place {
-            name: heap.name_at(address),
-            at: address,
-            size: size_words(&heap.shape_at(address)),
-        })?;
+        self.addresses.push(address)?;
         Ok(())
     }
 
@@ -111,18 +106,18 @@ impl Walk {
             (met self.old) (met self.new)) }
     {
         let mut next = 0;
-        while next < self.places.len() {
-            let address = self.places[next].at;
+        while next < self.addresses.len() {
+            let address = self.addresses[next];
             self.visit_fields(heap, address)?;
             next += 1;
         }
         Ok(())
     }
 
-    /// The places of the visited objects, in the order of the visits.
-    pub(crate) fn into_places(self) -> Vec<Place>
-        ensures { result.items ≡ self.places.items }
+    /// The addresses of the visited objects, in the order of the visits.
+    pub(crate) fn into_addresses(self) -> Vec<u32>
+        ensures { result.items ≡ self.addresses.items }
     {
-        self.places
+        self.addresses
     }
 }

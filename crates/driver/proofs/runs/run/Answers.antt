@@ -83,18 +83,18 @@ returns-in-Err-traces_of_order-clause-complete g c =
     let ends = c.in-Err-traces_of_order.ensures.fault in
     of-job _ job _ named (λ good calm _. subst (λ s. (s ≡ status.Ok) ⊎ (s ≡ status.OutOfMemory)) (sym c.status.ensures) (good-status job _ _ c.in-Err-traces_of_order.first.place c.in-Err-traces_of_order.first.fault ends good calm))
 
-pub text_of_session-requires-clause-some_worker : goal.text_of_session-requires-clause-some_worker
-text_of_session-requires-clause-some_worker g c κs within = (job-workers (texts c.args.words.now) (job_of_order c.in-Ok-Some.order) (sym (named-job _ c.in-Ok-Some.order _ c.in-Ok-Some.field-0-is c.in-Ok-Some.ensures))).0
+pub write_text_of_session-requires-clause-some_worker : goal.write_text_of_session-requires-clause-some_worker
+write_text_of_session-requires-clause-some_worker g c κs within = (job-workers (texts c.args.words.now) (job_of_order c.in-Ok-Some.order) (sym (named-job _ c.in-Ok-Some.order _ c.in-Ok-Some.field-0-is c.in-Ok-Some.ensures))).0
 
-pub text_of_session-requires-clause-few_workers : goal.text_of_session-requires-clause-few_workers
-text_of_session-requires-clause-few_workers g c κs within = (job-workers (texts c.args.words.now) (job_of_order c.in-Ok-Some.order) (sym (named-job _ c.in-Ok-Some.order _ c.in-Ok-Some.field-0-is c.in-Ok-Some.ensures))).1
+pub write_text_of_session-requires-clause-few_workers : goal.write_text_of_session-requires-clause-few_workers
+write_text_of_session-requires-clause-few_workers g c κs within = (job-workers (texts c.args.words.now) (job_of_order c.in-Ok-Some.order) (sym (named-job _ c.in-Ok-Some.order _ c.in-Ok-Some.field-0-is c.in-Ok-Some.ensures))).1
 
-pub text_of_session-requires-clause-least : goal.text_of_session-requires-clause-least
-text_of_session-requires-clause-least g c κs within =
+pub write_text_of_session-requires-clause-least : goal.write_text_of_session-requires-clause-least
+write_text_of_session-requires-clause-least g c κs within =
     (job-blocks (texts c.args.words.now) (job_of_order c.in-Ok-Some.order) (sym (named-job _ c.in-Ok-Some.order _ c.in-Ok-Some.field-0-is c.in-Ok-Some.ensures))).0
 
-pub text_of_session-requires-clause-most : goal.text_of_session-requires-clause-most
-text_of_session-requires-clause-most g c κs within =
+pub write_text_of_session-requires-clause-most : goal.write_text_of_session-requires-clause-most
+write_text_of_session-requires-clause-most g c κs within =
     (job-blocks (texts c.args.words.now) (job_of_order c.in-Ok-Some.order) (sym (named-job _ c.in-Ok-Some.order _ c.in-Ok-Some.field-0-is c.in-Ok-Some.ensures))).1
 
 pub traces_of_order-requires : goal.traces_of_order-requires
@@ -102,38 +102,22 @@ traces_of_order-requires g c =
     let job = job_of_order c.in-Ok-Some.order in
     job-work (texts c.args.words.now) job (sym (named-job _ c.in-Ok-Some.order _ c.in-Ok-Some.field-0-is c.in-Ok-Some.ensures))
 
-pub returns-then-is_err-clause-write_fault : goal.returns-then-is_err-clause-write_fault
-returns-then-is_err-clause-write_fault g c is =
-    let job = job_of_order c.in-Ok-Some.order in
-    let named = named-job _ c.in-Ok-Some.order _ c.in-Ok-Some.field-0-is c.in-Ok-Some.ensures in
-    let good = c.in-Ok.ensures.ok in
-    let text = c.in-Ok-text_of_session.ensures in
-    of-job _ job _ named (prints-prefix _ job _ _ _ _ good text (search rules) (search rules))
-
-pub returns-then-is_err-clause-long : goal.returns-then-is_err-clause-long
-returns-then-is_err-clause-long g c =
+pub returns-in-Ok-write_text_of_session-clause-long : goal.returns-in-Ok-write_text_of_session-clause-long
+returns-in-Ok-write_text_of_session-clause-long g c =
     let good = c.in-Ok.ensures.ok in
     of-job _ (job_of_order c.in-Ok-Some.order) _ (named-job _ c.in-Ok-Some.order _ c.in-Ok-Some.field-0-is c.in-Ok-Some.ensures) (λ at. absurd (traces-clash-of _ (job_of_order c.in-Ok-Some.order).work _ _ long-off good at))
 
-pub returns-then-is_err-clause-no_trace : goal.returns-then-is_err-clause-no_trace
-returns-then-is_err-clause-no_trace g c =
+pub returns-in-Ok-write_text_of_session-clause-no_trace : goal.returns-in-Ok-write_text_of_session-clause-no_trace
+returns-in-Ok-write_text_of_session-clause-no_trace g c =
     let good = c.in-Ok.ensures.ok in
     of-job _ (job_of_order c.in-Ok-Some.order) _ (named-job _ c.in-Ok-Some.order _ c.in-Ok-Some.field-0-is c.in-Ok-Some.ensures) (λ at. absurd (traces-clash-of _ (job_of_order c.in-Ok-Some.order).work _ _ bad-off good at))
 
-pub returns-clause-ok : goal.returns-clause-ok
-returns-clause-ok g c is =
-    let job = job_of_order c.in-Ok-Some.order in
-    let named = named-job _ c.in-Ok-Some.order _ c.in-Ok-Some.field-0-is c.in-Ok-Some.ensures in
-    let good = c.in-Ok.ensures.ok in
-    let text = c.in-Ok-text_of_session.ensures in
-    of-job _ job _ named (prints _ job _ _ _ _ good text (search rules))
-
-pub returns-clause-long : goal.returns-clause-long
-returns-clause-long g c =
+pub returns-in-Err-Unwritten-clause-long : goal.returns-in-Err-Unwritten-clause-long
+returns-in-Err-Unwritten-clause-long g c =
     let good = c.in-Ok.ensures.ok in
     of-job _ (job_of_order c.in-Ok-Some.order) _ (named-job _ c.in-Ok-Some.order _ c.in-Ok-Some.field-0-is c.in-Ok-Some.ensures) (λ at. absurd (traces-clash-of _ (job_of_order c.in-Ok-Some.order).work _ _ long-off good at))
 
-pub returns-clause-no_trace : goal.returns-clause-no_trace
-returns-clause-no_trace g c =
+pub returns-in-Err-Unwritten-clause-no_trace : goal.returns-in-Err-Unwritten-clause-no_trace
+returns-in-Err-Unwritten-clause-no_trace g c =
     let good = c.in-Ok.ensures.ok in
     of-job _ (job_of_order c.in-Ok-Some.order) _ (named-job _ c.in-Ok-Some.order _ c.in-Ok-Some.field-0-is c.in-Ok-Some.ensures) (λ at. absurd (traces-clash-of _ (job_of_order c.in-Ok-Some.order).work _ _ bad-off good at))

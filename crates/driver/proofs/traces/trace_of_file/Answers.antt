@@ -22,3 +22,11 @@ returns-in_err-finish-clause-bad g c f is =
     let read = c.in_err-finish.ensures.text all.0 all.2 in
     let other = not-memory fault f (sym same) in
     fault-in f _ all.0 all.1 all.3 (bad-text f (trace all.0) other (subst (λ (x : TraceFault). Gives (λ (v : List Command). v) (Err x) (trace all.0)) (bad-from fault f (sym same)) read)) other
+
+pub returns-clause-fit : goal.returns-clause-fit
+returns-clause-fit g c =
+    let all = c.in_ok-read_file.ensures.taken [] c.new.ensures in
+    record {
+      valid = c.in_ok-finish.ensures.valid all.0 all.2;
+      few = c.in_ok-finish.ensures.few all.0 all.2;
+    }

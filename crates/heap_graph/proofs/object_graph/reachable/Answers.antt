@@ -16,5 +16,5 @@ returns c =
     let walk : IsWalk s last = c.in_ok-follow.ensures.walk in
     let from_roots : Adds (λ i. slice_index roots i) (length roots) [] first =
     subst (λ l. Adds (λ i. slice_index roots i) (length roots) l first) c.in_ok-walk.ensures.none c.in_ok-visit_roots.ensures.adds in
-    subst (AreReached s roots) (sym c.into_places.ensures) (are-reached s roots first (met c.visit_globals.new.self) last.places.items
-    from_roots c.in_ok-visit_globals.ensures.adds c.in_ok-follow.ensures.closes walk.held walk.each walk.apart)
+    subst (AreReached s roots) (sym c.into_addresses.ensures) (are-reached s roots first (met c.visit_globals.new.self) (met last)
+    from_roots c.in_ok-visit_globals.ensures.adds c.in_ok-follow.ensures.closes walk.held walk.apart)

@@ -1,11 +1,9 @@
 use Rattle.std.proofs.Common.{refl, sym, ◌∙◌, ◌≡◌, true, false, arith}
-use Rattle.heap_graph.specs.declared.place.Place.{Place}
 use Rattle.heap_graph.specs.AddressSets.{has_address}
 use Rattle.object_model.specs.Objects.{HeapState, IsHeld}
 use Rattle.object_model.specs.Heaps.{heap_state}
-use Rattle.heap_graph.specs.Places.{IsPlaceOfObject}
 use Rattle.heap_graph.specs.Walks.{met}
-use Rattle.heap_graph.proofs.WalkLemmas.{adds-known, adds-place, walk-known, walk-pushed}
+use Rattle.heap_graph.proofs.WalkLemmas.{adds-known, adds-address, walk-known, walk-pushed}
 use Rattle.heap_graph.proofs.walk.Walk.visit.Goals as goal
 
 pub returns-then-not-insert-clause-walk : goal.returns-then-not-insert-clause-walk
@@ -24,11 +22,8 @@ returns-clause-walk c =
     let s : HeapState = heap_state c.args.heap.now in
     let had : has_address c.args.self.now.visited c.args.address ≡ false = grind arith in
     let held : IsHeld s c.args.address = c.requires.root c.if-address-eq0.false in
-    let p : Place = record { name = c.name_at.result; at = c.args.address; size = c.size_words.result } in
-    let place : IsPlaceOfObject s p = record { name = c.name_at.ensures.name; size = omega (arith, c.size_words.ensures, c.shape_at.ensures.refs, c.shape_at.ensures.nums) } in
-    walk-pushed s c.args.self.now _ p c.requires.walk held place c.in_ok-push.ensures.items c.insert.ensures.blocks had c.insert.ensures.there c.insert.ensures.others
+    walk-pushed s c.args.self.now _ c.args.address c.requires.walk held c.in_ok-push.ensures.items c.insert.ensures.blocks had c.insert.ensures.there c.insert.ensures.others
 
 pub returns-clause-adds : goal.returns-clause-adds
 returns-clause-adds c =
-    let p : Place = record { name = c.name_at.result; at = c.args.address; size = c.size_words.result } in
-    adds-place c.args.self.now (record { places = c.push.new.self; visited = c.insert.new.self }) p c.if-address-eq0.false c.in_ok-push.ensures.items
+    adds-address c.args.self.now (record { addresses = c.push.new.self; visited = c.insert.new.self }) c.args.address c.if-address-eq0.false c.in_ok-push.ensures.items
