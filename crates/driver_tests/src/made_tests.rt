@@ -12,7 +12,7 @@ const NOGC: &[&str] = &["nogc"];
 const COLLECTING: &[&str] = &["marksweep", "semispace", "gencopy", "immix", "stickyimmix"];
 
 // Plans, blocks, commands, and lines of the summary.
-const SUMMARIES: [(&[&str], u32, u32, &str); 7] = [
+const SUMMARIES: [(&[&str], u32, u32, &str); 8] = [
     (
         NOGC,
         4,
@@ -45,6 +45,14 @@ const SUMMARIES: [(&[&str], u32, u32, &str); 7] = [
         1_000_000,
         "make 1000000;new 242709;full 0;ref 35444;nil 65512;num 44821 sum 835254375542;ok 215427;\
         yes 42487;no 26349;null 126834;range 200417;live objects 18 words 374",
+    ),
+    // Most objects are refused. The counts add up to the commands.
+    (
+        NOGC,
+        4,
+        20_000,
+        "make 20000;new 747;full 4086;ref 127;nil 1242;num 144 sum 2344449294;ok 3315;yes 124;\
+        no 104;null 9506;range 605;live objects 0 words 0",
     ),
     // The commands 1,024 to 1,055 make all registers and globals nil.
     (

@@ -65,6 +65,49 @@ const LONG: [Command; 6] = [
     Command::Read { s: 0, j: 65_536 },
 ];
 
+// Commands at the limits of 4 bytes, and past them.
+const NARROW: [Command; 8] = [
+    Command::New {
+        d: 15,
+        refs: 15,
+        nums: 60_000,
+    },
+    Command::New {
+        d: 15,
+        refs: 16,
+        nums: 0,
+    },
+    Command::Write {
+        s: 1,
+        j: 255,
+        n: 4095,
+    },
+    Command::Write { s: 1, j: 256, n: 0 },
+    Command::Add {
+        s: 2,
+        j: 0,
+        n: 4096,
+    },
+    Command::Swap {
+        s: 3,
+        j: 4095,
+        was: 15,
+        next: 15,
+    },
+    Command::Swap {
+        s: 3,
+        j: 4096,
+        was: 0,
+        next: 0,
+    },
+    Command::Swap {
+        s: 3,
+        j: 0,
+        was: 16,
+        next: 0,
+    },
+];
+
 #[test]
 fn commands_are_stored_and_read_again(rt: HostRuntime) -> Result<(), Fail> {
     let alloc = rt.alloc();
@@ -76,6 +119,7 @@ fn commands_are_stored_and_read_again(rt: HostRuntime) -> Result<(), Fail> {
     let traces = vec![in alloc;
         Vec::from_slice(alloc, &SHORT)?,
         Vec::from_slice(alloc, &LONG)?,
+        Vec::from_slice(alloc, &NARROW)?,
         mixed,
     ]?;
     let stored = stored_traces(alloc, &traces)?;

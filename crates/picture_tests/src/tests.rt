@@ -8,14 +8,15 @@ use std::alloc::{AllocError, Global};
 use std::test::Fail;
 
 // The command line, the lines of the text, and the bars of the picture, with the cells before them.
-const PICTURES: [(&str, &str, &str); 7] = [
+const PICTURES: [(&str, &str, &str); 11] = [
     (
         "a",
-        "mutator 1;new 1.1;new 1.2;new 1.3;full;ref 2.1;mutator 2;new 2.1;range;ref 1.2;plan gencopy;bl\
-        ocks 5;mutators 2;commands 8;full 1;collections nursery 4 full 3;live objects 3 words 2060\
-        ;held objects 5 words 2069;kinds free 2 bump 0 young 1 mature 1 immix 0 cells 0 large 1 ke\
-        pt 0;map 1.2 block 2 word 0 size 2049;map 1.3 block 3 word 16 size 7;map 2.1 block 0 word \
-        5 size 4",
+        "mutator 1;new 1.1;new 1.2;new 1.3;full;ref 2.1;mutator 2;new 2.1;range;ref 1.2;\
+        plan gencopy;blocks 5;mutators 2;commands 8;full 1;collections nursery 4 full 3;\
+        live objects 3 words 2060;held objects 5 words 2069;\
+        kinds free 2 bump 0 young 1 mature 1 immix 0 cells 0 large 1 kept 0;\
+        map 1.2 block 2 word 0 size 2049;map 1.3 block 3 word 16 size 7;\
+        map 2.1 block 0 word 5 size 4",
         "<path class=\"f\" d=\"M0 0h256v16h-256z\"/>\n<path class=\"f\" d=\"M256 0h256v16h-256z\"/\
         >\n<path class=\"f\" d=\"M512 0h256v16h-256z\"/>\n<path class=\"f\" d=\"M768 0h256v16h-256\
         z\"/>\n<path class=\"f\" d=\"M1024 0h256v16h-256z\"/>\n<path class=\"l\" d=\"M512 0h256v1h\
@@ -112,6 +113,51 @@ const PICTURES: [(&str, &str, &str); 7] = [
         >\n<path class=\"f\" d=\"M512 0h256v16h-256z\"/>\n<path class=\"f\" d=\"M768 0h256v16h-256\
         z\"/>\n<path class=\"b\" d=\"M0 0h4v1h-4z\"><title>1.1 4 words</title></path>\n</g></svg>\
         \n",
+    ),
+    // Two objects, of which the first is pinned, and the same after a collection.
+    (
+        "a",
+        "mutator 1;new 1.1;new 1.2;yes;no;plan semispace;blocks 4;mutators 1;commands 4;full 0;col\
+        lections nursery 0 full 0;live objects 2 words 8;held objects 2 words 8;kinds free 3 bump \
+        1 young 0 mature 0 immix 0 cells 0 large 0 kept 0;map 1.1 block 0 word 0 size 4;map 1.2 bl\
+        ock 0 word 4 size 4",
+        "<path class=\"f\" d=\"M0 0h256v16h-256z\"/>\n<path class=\"f\" d=\"M256 0h256v16h-256z\"/\
+        >\n<path class=\"f\" d=\"M512 0h256v16h-256z\"/>\n<path class=\"f\" d=\"M768 0h256v16h-256\
+        z\"/>\n<path class=\"b\" d=\"M0 0h4v1h-4z\"><title>1.1 4 words</title></path>\n<path class\
+        =\"b\" d=\"M4 0h4v1h-4z\"><title>1.2 4 words</title></path>\n</g></svg>\n",
+    ),
+    (
+        "a",
+        "mutator 1;new 1.1;new 1.2;yes;no;ok;plan semispace;blocks 4;mutators 1;commands 5;full 0;\
+        collections nursery 0 full 1;live objects 2 words 8;held objects 2 words 8;kinds free 2 bu\
+        mp 1 young 0 mature 0 immix 0 cells 0 large 0 kept 1;map 1.1 block 0 word 0 size 4;map 1.2 \
+        block 1 word 0 size 4",
+        "<path class=\"f\" d=\"M0 0h256v16h-256z\"/>\n<path class=\"f\" d=\"M256 0h256v16h-256z\"/\
+        >\n<path class=\"f\" d=\"M512 0h256v16h-256z\"/>\n<path class=\"f\" d=\"M768 0h256v16h-256\
+        z\"/>\n<path class=\"s\" d=\"M0 0h4v1h-4z\"><title>1.1 4 words</title></path>\n<path class\
+        =\"s\" d=\"M256 0h4v1h-4z\"><title>1.2 4 words</title></path>\n</g></svg>\n",
+    ),
+    (
+        "a",
+        "mutator 1;new 1.1;new 1.2;yes;no;plan immix;blocks 4;mutators 1;commands 4;full 0;collect\
+        ions nursery 0 full 0;live objects 2 words 8;held objects 2 words 8;kinds free 3 bump 0 yo\
+        ung 0 mature 0 immix 1 cells 0 large 0 kept 0;map 1.1 block 0 word 0 size 4;map 1.2 block \
+        0 word 4 size 4",
+        "<path class=\"f\" d=\"M0 0h256v16h-256z\"/>\n<path class=\"f\" d=\"M256 0h256v16h-256z\"/\
+        >\n<path class=\"f\" d=\"M512 0h256v16h-256z\"/>\n<path class=\"f\" d=\"M768 0h256v16h-256\
+        z\"/>\n<path class=\"i\" d=\"M0 0h4v1h-4z\"><title>1.1 4 words</title></path>\n<path class\
+        =\"i\" d=\"M4 0h4v1h-4z\"><title>1.2 4 words</title></path>\n</g></svg>\n",
+    ),
+    (
+        "a",
+        "mutator 1;new 1.1;new 1.2;yes;no;ok;plan immix;blocks 4;mutators 1;commands 5;full 0;coll\
+        ections nursery 0 full 1;live objects 2 words 8;held objects 2 words 8;kinds free 2 bump 0 \
+        young 0 mature 0 immix 2 cells 0 large 0 kept 0;map 1.1 block 0 word 0 size 4;map 1.2 bloc\
+        k 1 word 0 size 4",
+        "<path class=\"f\" d=\"M0 0h256v16h-256z\"/>\n<path class=\"f\" d=\"M256 0h256v16h-256z\"/\
+        >\n<path class=\"f\" d=\"M512 0h256v16h-256z\"/>\n<path class=\"f\" d=\"M768 0h256v16h-256\
+        z\"/>\n<path class=\"i\" d=\"M0 0h4v1h-4z\"><title>1.1 4 words</title></path>\n<path class\
+        =\"i\" d=\"M256 0h4v1h-4z\"><title>1.2 4 words</title></path>\n</g></svg>\n",
     ),
 ];
 

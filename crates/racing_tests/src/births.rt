@@ -1,14 +1,14 @@
-//! Mutators on threads that allocate until no block has room.
+//! Mutators on threads that allocate: until no block has room, and a few objects in each epoch.
 
 ghost use Rattle.std.specs.Prelude.{◌≡◌, ◌+◌, ◌<◌, ◌≤◌, All, IfOk, length, map, true};
 ghost use Rattle.std.specs.Thread.{IsSync};
 ghost use Rattle.object_model.specs.Graphs.{numbers_of};
-ghost use Rattle.racing_world.specs.RacingSeats.{MayCall};
+ghost use Rattle.racing_mutator.specs.RacingSeats.{MayCall};
 ghost use Rattle.racing_world.specs.Answers.{births_of};
 ghost use Rattle.racing_world.specs.Calls.{epoch_of_world, number_of};
 
-use crate::walks::check_stop;
-use crate::worlds::{SHARED, number, plain_world};
+use crate::walks::{check_full, check_walk};
+use crate::worlds::{MOST, SHARED, closed, new_world, number, opened_again, plain_world};
 use mutator_calls::Allocated;
 use mutator_rule::MutatorSeat;
 use object_model::Shape;
@@ -23,12 +23,14 @@ use std::thread::{Threads, for_each_mut};
 // The register of a mutator's new object.
 const NEW: u32 = 3;
 
-// The number of the shared object that counts objects, and the one that counts errors.
-const MADE: u32 = 1;
+/// The number of the shared object that counts objects.
+pub(crate) const MADE: u32 = 1;
 
+// The one that counts errors.
 const ERRORS: u32 = 2;
 
-const NUMS: u32 = 3;
+/// How many numbers it has.
+pub(crate) const NUMS: u32 = 3;
 
 // How often the blocks are filled.
 const ROUNDS: u32 = 10;
@@ -36,8 +38,13 @@ const ROUNDS: u32 = 10;
 // What a mutator stores into its objects, but for its number.
 const GIFT: u64 = 55_000;
 
-// The most objects of a mutator: more than there is room for.
-const MOST: u32 = 1_000_000;
+// The objects that a mutator allocates in each of many epochs, the epochs of a heap, and the heaps
+// of each plan: 10,080 epochs.
+const FEW: u32 = 2;
+
+const EPOCHS: u32 = 210;
+
+const HEAPS: u32 = 4;
 
 // Allocates an object. Whether there was room.
 fn make_one<P: Plan>(world: &World<P>, seat: &mut MutatorSeat, shape: &Shape) -> bool
@@ -54,8 +61,8 @@ fn make_one<P: Plan>(world: &World<P>, seat: &mut MutatorSeat, shape: &Shape) ->
     }
 }
 
-// Allocates objects until the mutator is to stop. Stores a number into each.
-fn fill<P: Plan>(world: &World<P>, seat: &mut MutatorSeat, shape: &Shape)
+// Allocates objects, at most so many, until the mutator is to stop. Stores a number into each.
+fn fill<P: Plan>(world: &World<P>, seat: &mut MutatorSeat, shape: &Shape, most: u32)
     requires call { MayCall P.rules world.now.row seat.old }
     requires refs { shape.now.refs ≤ 8 }
     requires size { shape.now.refs + shape.now.nums ≤ 2045 }
@@ -63,7 +70,7 @@ fn fill<P: Plan>(world: &World<P>, seat: &mut MutatorSeat, shape: &Shape)
     ensures number { number_of seat.new ≡ number_of seat.old }
 {
     let gift = seat.number() as u64 + GIFT;
-    for _ in 0..MOST {
+    for _ in 0..most {
         if seat.births() >= MOST {
             return;
         }
@@ -82,6 +89,7 @@ fn fill_together<P: Plan + Sync, R: Threads + Sync>(
     world: &World<P>,
     seats: &mut [MutatorSeat],
     shape: &Shape,
+    most: u32,
 )
     requires calls { All (MayCall P.rules world.now.row) seats.old }
     requires some { 0 < length seats.old }
@@ -101,7 +109,7 @@ fn fill_together<P: Plan + Sync, R: Threads + Sync>(
             ensures { MayCall P.rules world.entry.now.row seat.new
                 × (number_of seat.new ≡ number_of seat.old) }
         {
-            fill(world, seat, shape);
+            fill(world, seat, shape, most);
         },
     );
 }
@@ -153,8 +161,13 @@ fn counts<P: Plan>(world: &World<P>, seat: &mut MutatorSeat, made: u64) -> bool
     number(world, seat, SHARED, MADE) == made && number(world, seat, SHARED, ERRORS) == 0
 }
 
-// The same, as a mutator reads it.
-fn check_counts<P: Plan>(rt: &impl Abort, world: &World<P>, seats: &mut Vec<MutatorSeat>, made: u64)
+/// The same, as a mutator reads it.
+pub(crate) fn check_counts<P: Plan>(
+    rt: &impl Abort,
+    world: &World<P>,
+    seats: &mut Vec<MutatorSeat>,
+    made: u64,
+)
     requires calls { All (MayCall P.rules world.now.row) seats.old.items }
     ensures calls { All (MayCall P.rules world.now.row) seats.new.items }
     ensures numbers { map number_of seats.new.items ≡ map number_of seats.old.items }
@@ -176,14 +189,15 @@ fn check_fill<P: Plan + Sync, R: Threads + Sync + Abort>(
     let (world, mut seats, room) = begun::<P>(rt, alloc, count)?;
     assert!(rt; seats.len() > 0);
     let before = births(&seats);
-    fill_together(rt, &world, seats.as_mut_slice(), shape);
+    fill_together(rt, &world, seats.as_mut_slice(), shape, MOST);
     let made = births(&seats).wrapping_sub(before);
     assert!(rt; made >= room.limit as u64);
     check_counts(rt, &world, &mut seats, made);
     assert!(rt; seats.len() > 0);
     let (heap, _) = world.close(alloc, seats)?;
     assert!(rt; block_counts(&heap).free.checked_add(room.limit) == Some(room.free));
-    check_stop::<P>(rt, alloc, &heap, shape)
+    check_full::<P>(rt, &heap, shape);
+    check_walk(rt, alloc, &heap)
 }
 
 #[test]
@@ -217,6 +231,43 @@ fn mutators_fill_cells_of_all_classes(rt: HostRuntime) -> Result<(), Fail> {
             nums: *nums,
         };
         check_fill::<MarkSweep, _>(&rt, alloc, 4, &shape)?;
+    }
+    Ok(())
+}
+
+// The mutators allocate a few objects in each of many epochs. No object is lost or named twice, and
+// none overlaps another.
+fn check_epochs<P: Plan + Sync, R: Threads + Sync + Abort>(
+    rt: &R,
+    alloc: Global,
+    count: u32,
+) -> Result<(), Fail> {
+    let shape = Shape { refs: 1, nums: 1 };
+    let (mut world, mut seats) = new_world::<P>(rt, alloc, count, NUMS)?;
+    let before = births(&seats);
+    for _ in 0..EPOCHS {
+        assert!(rt; seats.len() > 0);
+        fill_together(rt, &world, seats.as_mut_slice(), &shape, FEW);
+        (world, seats) = opened_again(rt, alloc, world, seats)?;
+    }
+    let made = births(&seats).wrapping_sub(before);
+    check_counts(rt, &world, &mut seats, made);
+    let (heap, _) = closed(rt, alloc, world, seats)?;
+    check_walk(rt, alloc, &heap)
+}
+
+#[test]
+fn mutators_allocate_in_many_epochs(rt: HostRuntime) -> Result<(), Fail> {
+    let alloc = rt.alloc();
+    for _ in 0..HEAPS {
+        for count in [2, 4] {
+            check_epochs::<NoGc, _>(&rt, alloc, count)?;
+            check_epochs::<MarkSweep, _>(&rt, alloc, count)?;
+            check_epochs::<SemiSpace, _>(&rt, alloc, count)?;
+            check_epochs::<GenCopy, _>(&rt, alloc, count)?;
+            check_epochs::<Immix, _>(&rt, alloc, count)?;
+            check_epochs::<StickyImmix, _>(&rt, alloc, count)?;
+        }
     }
     Ok(())
 }

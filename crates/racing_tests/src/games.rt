@@ -1,7 +1,7 @@
 //! What each mutator does where all share one object.
 
 ghost use Rattle.std.specs.Prelude.{◌≡◌};
-ghost use Rattle.racing_world.specs.RacingSeats.{MayCall};
+ghost use Rattle.racing_mutator.specs.RacingSeats.{MayCall};
 ghost use Rattle.racing_world.specs.Calls.{number_of};
 
 use crate::worlds::{OWN, SHARED, number};

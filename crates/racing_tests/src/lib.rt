@@ -10,7 +10,11 @@ mod ideal;
 #[cfg(test)]
 mod orders;
 #[cfg(test)]
+mod private;
+#[cfg(test)]
 mod races;
+#[cfg(test)]
+mod random;
 #[cfg(test)]
 mod twins;
 #[cfg(test)]

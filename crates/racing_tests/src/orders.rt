@@ -2,7 +2,7 @@
 
 ghost use Rattle.std.specs.Prelude.{◌≡◌, ◌<◌, All, length, map};
 ghost use Rattle.std.specs.Thread.{IsSync};
-ghost use Rattle.racing_world.specs.RacingSeats.{MayCall};
+ghost use Rattle.racing_mutator.specs.RacingSeats.{MayCall};
 ghost use Rattle.racing_world.specs.Calls.{number_of};
 
 use crate::games::meet;

@@ -50,17 +50,8 @@ fn meet_block(rt: &impl Abort, heap: &Heap, met: &mut Met, block: u32)
     }
 }
 
-/// No two objects of the heap have one name, and none overlaps another. No room is left for an
-/// object of the shape but large blocks' and those kept in reserve.
-pub(crate) fn check_stop<P: Plan>(
-    rt: &impl Abort,
-    alloc: Global,
-    heap: &Heap,
-    shape: &Shape,
-) -> Result<(), Fail>
-    requires refs { shape.now.refs ≤ 8 }
-    requires size { shape.now.refs + shape.now.nums ≤ 2045 }
-{
+/// No two objects of the heap have one name, and none overlaps another.
+pub(crate) fn check_walk(rt: &impl Abort, alloc: Global, heap: &Heap) -> Result<(), Fail> {
     let mut met = Met {
         names: vec![in alloc; false; NAMES]?,
         end: 0,
@@ -68,7 +59,14 @@ pub(crate) fn check_stop<P: Plan>(
     for block in 0..heap.layout().blocks() {
         meet_block(rt, heap, &mut met, block);
     }
+    Ok(())
+}
+
+/// No room is left for an object of the shape but large blocks' and those kept in reserve.
+pub(crate) fn check_full<P: Plan>(rt: &impl Abort, heap: &Heap, shape: &Shape)
+    requires refs { shape.now.refs ≤ 8 }
+    requires size { shape.now.refs + shape.now.nums ≤ 2045 }
+{
     assert!(rt; !has_hole(heap, P::alloc_kind(), size_words(shape)));
     assert!(rt; P::allowance(heap) == 0);
-    Ok(())
 }

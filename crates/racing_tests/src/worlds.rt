@@ -2,13 +2,19 @@
 
 ghost use Rattle.std.specs.Prelude.{◌≡◌, ◌<◌, ◌≤◌, All, IfOk, map, length};
 ghost use Rattle.object_model.specs.Graphs.{numbers_of};
+ghost use Rattle.object_model.specs.Heaps.{heap_state};
+ghost use Rattle.sessions.specs.Collecting.{Remembers};
+ghost use Rattle.heap_users.specs.Users.{mutator_state};
+ghost use Rattle.heap_users.specs.Beginnings.{MayUse};
 ghost use Rattle.plain_world.specs.Calls.{IsOpen};
 ghost use Rattle.mutator_rule.specs.Seats.{local_of};
-ghost use Rattle.racing_world.specs.RacingSeats.{MayCall, holdings};
+ghost use Rattle.racing_mutator.specs.RacingSeats.{MayCall, holdings};
 ghost use Rattle.racing_world.specs.Calls.{epoch_of_world, number_of};
+ghost use Rattle.racing_tests.specs.Beginnings.{BeginsIdeal};
 
 use heap_layout::Layout;
 use ideal_heap::{Command, Reply, valid};
+use mutator_calls::{Allocated, Mutator};
 use mutator_rule::MutatorSeat;
 use object_model::Heap;
 use plain_world::{PlainWorld, new_mutators};
@@ -26,8 +32,8 @@ pub(crate) const OWN: u32 = 1;
 // The heap has room for a block of each mutator.
 const BLOCKS: u32 = 24;
 
-// The numbers of an own object.
-const OWN_NUMS: u32 = 8;
+/// The numbers of an own object.
+pub(crate) const OWN_NUMS: u32 = 8;
 
 // The mutator at place `m` allocates an object with one reference.
 fn make<P: Plan>(rt: &impl Abort, world: &mut PlainWorld<P>, m: u32, d: u32, nums: u32)
@@ -84,10 +90,67 @@ pub(crate) fn shared<P: Plan>(
     ensures calls { IfOk result (λ r. All (MayCall P.rules r.0.row) r.1.items) }
     ensures all { IfOk result (λ r. map number_of r.1.items
         ≡ numbers_of (epoch_of_world P.rules r.0).mutators) }
+    ensures ideal { IfOk result (λ r. BeginsIdeal (epoch_of_world P.rules r.0)) }
 {
     let (heap, mutators) = plain.close();
+    opened(rt, alloc, heap, mutators)
+}
+
+/// A world of the heap and its mutators.
+pub(crate) fn opened<P: Plan>(
+    rt: &impl Abort,
+    alloc: Global,
+    heap: Heap,
+    mutators: Vec<Mutator>,
+) -> Result<(World<P>, Vec<MutatorSeat>), AllocError>
+    requires users { MayUse (heap_state heap) (map mutator_state mutators.items) }
+    requires remembers { Remembers P.rules (heap_state heap) }
+    ensures calls { IfOk result (λ r. All (MayCall P.rules r.0.row) r.1.items) }
+    ensures all { IfOk result (λ r. map number_of r.1.items
+        ≡ numbers_of (epoch_of_world P.rules r.0).mutators) }
+    ensures ideal { IfOk result (λ r. BeginsIdeal (epoch_of_world P.rules r.0)) }
+{
     assert!(rt; mutators.len() > 0 && mutators.len() <= 16);
     World::begin(alloc, heap, mutators)
+}
+
+/// The heap of a world at its stop, and the mutators.
+pub(crate) fn closed<P: Plan>(
+    rt: &impl Abort,
+    alloc: Global,
+    world: World<P>,
+    seats: Vec<MutatorSeat>,
+) -> Result<(Heap, Vec<Mutator>), AllocError>
+    requires calls { All (MayCall P.rules world.row) seats.items }
+    requires all { map number_of seats.items
+        ≡ numbers_of (epoch_of_world P.rules world).mutators }
+    requires ideal { BeginsIdeal (epoch_of_world P.rules world) }
+    ensures users { IfOk result (λ r.
+        MayUse (heap_state r.0) (map mutator_state r.1.items)) }
+    ensures remembers { IfOk result (λ r. Remembers P.rules (heap_state r.0)) }
+{
+    assert!(rt; seats.len() > 0);
+    world.close(alloc, seats)
+}
+
+/// The next epoch of a world.
+pub(crate) fn opened_again<P: Plan>(
+    rt: &impl Abort,
+    alloc: Global,
+    world: World<P>,
+    seats: Vec<MutatorSeat>,
+) -> Result<(World<P>, Vec<MutatorSeat>), AllocError>
+    requires calls { All (MayCall P.rules world.row) seats.items }
+    requires all { map number_of seats.items
+        ≡ numbers_of (epoch_of_world P.rules world).mutators }
+    requires ideal { BeginsIdeal (epoch_of_world P.rules world) }
+    ensures calls { IfOk result (λ r. All (MayCall P.rules r.0.row) r.1.items) }
+    ensures all { IfOk result (λ r. map number_of r.1.items
+        ≡ numbers_of (epoch_of_world P.rules r.0).mutators) }
+    ensures ideal { IfOk result (λ r. BeginsIdeal (epoch_of_world P.rules r.0)) }
+{
+    let (heap, mutators) = closed(rt, alloc, world, seats)?;
+    opened(rt, alloc, heap, mutators)
 }
 
 /// A world of `count` mutators, as `plain_world` has them.
@@ -100,6 +163,7 @@ pub(crate) fn new_world<P: Plan>(
     ensures calls { IfOk result (λ r. All (MayCall P.rules r.0.row) r.1.items) }
     ensures all { IfOk result (λ r. map number_of r.1.items
         ≡ numbers_of (epoch_of_world P.rules r.0).mutators) }
+    ensures ideal { IfOk result (λ r. BeginsIdeal (epoch_of_world P.rules r.0)) }
 {
     let plain = plain_world::<P>(rt, alloc, count, nums)?;
     Ok(shared(rt, alloc, plain)?)
@@ -119,7 +183,11 @@ pub(crate) fn number<P: Plan>(world: &World<P>, seat: &mut MutatorSeat, s: u32, 
     }
 }
 
-/// The reply to a command of a seat. `new`, `gc`, `meet` and commands out of range are not called.
+/// The most objects of a mutator: more than there is room for.
+pub(crate) const MOST: u32 = 1_000_000;
+
+/// The reply to a command of a seat, `full` to a `new` that is left to the stop. `gc`, `meet` and
+/// commands out of range are not called.
 pub(crate) fn reply_to<P: Plan>(
     world: &World<P>,
     seat: &mut MutatorSeat,
@@ -129,10 +197,14 @@ pub(crate) fn reply_to<P: Plan>(
     ensures call { MayCall P.rules world.now.row seat.new }
     ensures number { number_of seat.new ≡ number_of seat.old }
 {
-    if !valid(command) {
+    if !valid(command) || seat.births() >= MOST {
         return Reply::Done;
     }
     match *command {
+        Command::New { d, refs, nums } => match world.new_object(seat, d, refs, nums) {
+            Allocated::Made(name) => Reply::New(name),
+            Allocated::Stop(_) => Reply::Full,
+        },
         Command::Get { d, s, i } => world.get(seat, d, s, i),
         Command::Put { s, i, v } => world.put(seat, s, i, v),
         Command::Read { s, j } => world.read(seat, s, j),
@@ -145,7 +217,7 @@ pub(crate) fn reply_to<P: Plan>(
         Command::Share { g, s } => world.share(seat, g, s),
         Command::Pin { s } => world.pin(seat, s),
         Command::Unpin { s } => world.unpin(seat, s),
-        Command::New { .. } | Command::Gc | Command::Meet => Reply::Done,
+        Command::Gc | Command::Meet => Reply::Done,
     }
 }
 

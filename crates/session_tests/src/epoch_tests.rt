@@ -4,7 +4,7 @@ ghost use Rattle.std.specs.Prelude.{◌≡◌, ◌<◌, IfOk};
 ghost use Rattle.driver.specs.Prelude.{left, ClosesSome, IsManaged};
 ghost use Rattle.ideal_heap.specs.Plain.{mutators_of};
 
-use crate::commands::{commands_in, random_commands};
+use crate::commands::{commands_in, create, random_commands};
 use crate::whole_sessions::check_runnable;
 use driver::{Manager, Turn, managed_plans};
 use heap_layout::Layout;
@@ -15,6 +15,7 @@ use plans::{GenCopy, Immix, MarkSweep, NoGc, SemiSpace, StickyImmix};
 use pools::PlainPool;
 use std::alloc::{AllocError, Global};
 use std::process::Abort;
+use std::sync::atomic::{AtomicU64, Ordering};
 use std::test::Fail;
 use std::thread::Threads;
 use work_packets::{Gate, MeetGate, OpenGate, Point};
@@ -277,7 +278,9 @@ fn shared_replies_are_those_of_some_order(rt: HostRuntime) -> Result<(), Fail> {
     managed_plans();
     check_shared::<NoGc, _>(&rt, alloc)?;
     check_shared::<MarkSweep, _>(&rt, alloc)?;
+    check_shared::<SemiSpace, _>(&rt, alloc)?;
     check_shared::<GenCopy, _>(&rt, alloc)?;
+    check_shared::<Immix, _>(&rt, alloc)?;
     check_shared::<StickyImmix, _>(&rt, alloc)
 }
 
@@ -313,8 +316,99 @@ fn mutators_run_at_once(rt: HostRuntime) -> Result<(), Fail> {
 fn many_epochs(rt: HostRuntime) -> Result<(), Fail> {
     let alloc = rt.alloc();
     managed_plans();
-    let traces = meeting(alloc, 4, 5_000)?;
-    let manager = run_by::<SemiSpace, _, _>(&rt, alloc, 8, traces, Way::Threads, &OpenGate)?;
-    assert_eq!(rt; manager.commands(), 20_000);
+    for way in [Way::Threads, Way::Advance] {
+        let traces = meeting(alloc, 4, 5_000)?;
+        let manager = run_by::<SemiSpace, _, _>(&rt, alloc, 8, traces, way, &OpenGate)?;
+        assert!(rt; manager.commands() == 20_000, "{way:?}");
+    }
+    Ok(())
+}
+
+// So many epochs are short that mutators run in turns.
+const MANY: usize = 70;
+
+// A gate that counts the polls of mutators 1 and 2, and those from the `MANY`th on that came before
+// the other's turn was over.
+#[derive(Drop)]
+struct TurnGate {
+    first: AtomicU64,
+    second: AtomicU64,
+    early: AtomicU64,
+}
+
+impl Gate for TurnGate {
+    fn pass(&self, who: u32, point: Point) {
+        if point != Point::Poll {
+            return;
+        }
+        let (own, other) = match who {
+            1 => (&self.first, self.second.load(Ordering::SeqCst)),
+            _ => (
+                &self.second,
+                self.first.load(Ordering::SeqCst).wrapping_sub(1),
+            ),
+        };
+        let before = own.fetch_add(1, Ordering::SeqCst);
+        if before >= MANY as u64 && before != other {
+            self.early.fetch_add(1, Ordering::SeqCst);
+        }
+    }
+}
+
+// Where one short epoch follows another, mutators run in turns: each polls once in an epoch.
+#[test]
+fn short_epochs_run_in_turns(rt: HostRuntime) -> Result<(), Fail> {
+    let alloc = rt.alloc();
+    managed_plans();
+    let gate = TurnGate {
+        first: AtomicU64::new(0),
+        second: AtomicU64::new(0),
+        early: AtomicU64::new(0),
+    };
+    let traces = meeting(alloc, 2, 1_000)?;
+    let manager = run_by::<Immix, TurnGate, _>(&rt, alloc, 4, traces, Way::Advance, &gate)?;
+    assert!(rt; manager.commands() == 2_000 && gate.second.load(Ordering::SeqCst) == 1_000);
+    assert!(rt; gate.early.load(Ordering::SeqCst) == 0);
+    Ok(())
+}
+
+// After many short epochs and a long one mutators are on threads again: each of two in turn is held
+// at its `new` until the other comes to its own.
+#[test]
+fn threads_begin_again_after_a_long_epoch(rt: HostRuntime) -> Result<(), Fail> {
+    let alloc = rt.alloc();
+    managed_plans();
+    for (first, second) in [(1u32, 2u32), (2, 1)] {
+        let gate = MeetGate::new(first, second, Point::Alloc);
+        let mut traces = meeting(alloc, 2, MANY)?;
+        for trace in &mut traces {
+            for _ in 0..5_000u32 {
+                trace.push(Command::DropReg { s: 0 })?;
+            }
+            trace.push(Command::Meet)?;
+            trace.push(create(0, 0, 1))?;
+        }
+        let manager = run_by::<Immix, MeetGate, _>(&rt, alloc, 4, traces, Way::Advance, &gate)?;
+        assert!(rt; manager.commands() == 10_144 && !gate.missed(), "{first}");
+    }
+    Ok(())
+}
+
+// Two mutators on a heap that is full after eight objects. Each other one is refused at a stop of
+// its own.
+#[test]
+fn many_refusals(rt: HostRuntime) -> Result<(), Fail> {
+    let alloc = rt.alloc();
+    managed_plans();
+    let mut traces = Vec::new(alloc);
+    for _ in 0..2u32 {
+        let mut trace = Vec::new(alloc);
+        for _ in 0..2_000u32 {
+            trace.push(create(0, 0, 2045))?;
+        }
+        traces.push(trace)?;
+    }
+    let manager = run_by::<NoGc, _, _>(&rt, alloc, 4, traces, Way::Advance, &OpenGate)?;
+    assert!(rt; manager.commands() == 4_000 && manager.refusals() == 3_992);
     Ok(())
 }

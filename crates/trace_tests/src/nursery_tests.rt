@@ -377,7 +377,8 @@ fn of_first(alloc: Global, commands: &[Command]) -> Result<Vec<(u32, Command)>, 
 }
 
 // Collections by so many workers of a heap after each of these lists of commands: a full one first
-// and last, and nursery ones between. Returns how many objects each kept, and how many logged ones it had.
+// and last, and nursery ones between. Returns how many objects each kept, and how many logged ones
+// it had.
 fn collect_between<P: Plan, R: Abort + Threads + Sync>(
     rt: &R,
     alloc: Global,
@@ -407,8 +408,8 @@ fn collect_between<P: Plan, R: Abort + Threads + Sync>(
     Ok(kept)
 }
 
-// The commands that build a graph of `count` objects, of which a third are old as the first of three
-// nursery collections begins. Before each one, stores into random objects log some.
+// The commands that build a graph of `count` objects, of which a third are old as the first of
+// three nursery collections begins. Before each one, stores into random objects log some.
 fn random_parts(alloc: Global, seed: u64, count: u32) -> Result<Vec<Vec<Command>>, AllocError> {
     let commands = random_graph(alloc, seed, count)?;
     let third = commands.len() / 3;

@@ -163,8 +163,8 @@ fn check_several(rt: &impl Abort, old: &Begun, plain: &Left, several: &Left) {
     }
 }
 
-// One worker leaves the row that the plain tracer leaves, call by call. By packets 1, 2 and 16 leave
-// its graph, each of `times` times.
+// One worker leaves the row that the plain tracer leaves, call by call. By packets 1, 2 and 16
+// leave its graph, each of `times` times.
 fn check_case<R: Threads + Sync + Abort>(
     rt: &R,
     alloc: Global,
@@ -280,8 +280,8 @@ impl Gate for ServingGate {
     }
 }
 
-// More than 64 roots refer to each object. Two workers share the packets of the roots, and each root
-// gets its target.
+// More than 64 roots refer to each object. Two workers share the packets of the roots, and each
+// root gets its target.
 #[test]
 fn racing_roots_are_shared(rt: HostRuntime) -> Result<(), Fail> {
     let alloc = rt.alloc();

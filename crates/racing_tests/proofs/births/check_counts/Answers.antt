@@ -1,7 +1,7 @@
 use Rattle.std.proofs.Common.{◌<◌, length, subst, sym, rules}
 use Rattle.std.proofs.lemmas.List.Elements.{All-set}
 use Rattle.mutator_rule.specs.declared.seat.MutatorSeat.{MutatorSeat}
-use Rattle.racing_world.specs.RacingSeats.{MayCall}
+use Rattle.racing_mutator.specs.RacingSeats.{MayCall}
 use Rattle.racing_tests.proofs.births.check_counts.Goals as goal
 
 pub counts-requires : goal.counts-requires

@@ -1,6 +1,6 @@
 use Rattle.plain_world.specs.Calls.{IsOpen}
 use Rattle.std.specs.Prelude.{◌≡◌}
-use Rattle.racing_world.specs.RacingSeats.{MayCall}
+use Rattle.racing_mutator.specs.RacingSeats.{MayCall}
 use Rattle.racing_world.specs.Calls.{number_of}
 use Rattle.racing_tests.proofs.twins.check_replies.Given as goal
 

@@ -1,13 +1,13 @@
 use Rattle.std.proofs.Common.{◌<◌, length, subst, sym, rules}
 use Rattle.std.proofs.lemmas.List.Elements.{All-set}
 use Rattle.mutator_rule.specs.declared.seat.MutatorSeat.{MutatorSeat}
-use Rattle.racing_world.specs.RacingSeats.{MayCall}
+use Rattle.racing_mutator.specs.RacingSeats.{MayCall}
 use Rattle.racing_tests.proofs.twins.check_seat.Goals as goal
 
-pub check_replies-requires-clause-call : goal.check_replies-requires-clause-call
-check_replies-requires-clause-call g c =
+pub check_commands-requires-clause-call : goal.check_commands-requires-clause-call
+check_commands-requires-clause-call g c =
     let few : 0 < length c.args.seats.now.items = search rules in
     subst (λ (s : MutatorSeat). MayCall g.P.Plan.rules c.args.world.now.row s) (sym c.index_mut.ensures.value) (c.requires.calls 0 c.index_mut.result.now few)
 
 pub returns-clause-calls : goal.returns-clause-calls
-returns-clause-calls g c = All-set (λ (s : MutatorSeat). MayCall g.P.Plan.rules c.args.world.now.row s) c.args.seats.now.items 0 c.check_replies.new.seat c.check_replies.ensures.call c.requires.calls
+returns-clause-calls g c = All-set (λ (s : MutatorSeat). MayCall g.P.Plan.rules c.args.world.now.row s) c.args.seats.now.items 0 c.check_commands.new.seat c.check_commands.ensures.call c.requires.calls

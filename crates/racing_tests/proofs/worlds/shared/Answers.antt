@@ -1,5 +1,5 @@
 use Rattle.std.proofs.Common.{sym}
 use Rattle.racing_tests.proofs.worlds.shared.Goals as goal
 
-pub begin-requires-clause-remembers : goal.begin-requires-clause-remembers
-begin-requires-clause-remembers g c = c.close-heap.ensures.remembers g.P.Plan.rules (sym c.requires.young)
+pub opened-requires-clause-remembers : goal.opened-requires-clause-remembers
+opened-requires-clause-remembers g c = c.close-heap.ensures.remembers g.P.Plan.rules (sym c.requires.young)
