@@ -6,7 +6,8 @@ pub use Rattle.ideal_heap.specs.declared.reply.Reply.{Reply}
 pub use Rattle.ideal_heap.specs.declared.reply.Reply.TheVariants as reply
 pub use Rattle.ideal_heap.specs.Commands.{is_new}
 pub use Rattle.ideal_heap.specs.Names.{name}
-pub use Rattle.ideal_heap.specs.Ideal.{IdealHeap, IsIdeal, Field, Nil, At, name_of_field, field_reply, field_of as field_to, global_reply, empty, step}
+pub use Rattle.ideal_heap.specs.Ideal.{IdealHeap, IsIdeal, Field, Nil, At, name_of_field, field_reply}
+pub use Rattle.ideal_heap.specs.Ideal.{field_of as field_to, global_reply, empty, step}
 pub use Rattle.ideal_heap.specs.Runs.{Entry, IsRun, alone, entry, heap_after_run, is_full}
 pub use Rattle.programs.specs.Contents.{missing_reply, number_of_object, number_of, field_in, field_in_heap}
 pub use Rattle.programs.specs.Footprints.{changed_by, shared_by, pinned_by, SetsField, Changes, HitsNumber, HitsField}
