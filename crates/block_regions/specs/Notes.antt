@@ -1,13 +1,15 @@
 -- The notes on blocks, and their flags, against the heap.
 use Rattle.heap_layout.specs.declared.block_codes.TheConstants.{OWNER_UNIT}
 use Rattle.heap_layout.specs.declared.layout.TheConstants.{BLOCK_WORDS, BLOCK_LINES}
-use Rattle.std.specs.Prelude.{◌≡◌, ℕ, ◌+◌, ◌-◌, ◌%◌, ◌<◌, ◌≤◌, ◌⊎◌, Bool, true, IsTrue, List, [], length, nat_eq, Some, slice_get, slice_set, vec_capacity}
+use Rattle.std.specs.Prelude.{◌≡◌, ℕ, ◌+◌, ◌-◌, ◌%◌, ◌<◌, ◌≤◌, ◌⊎◌, Bool, true, IsTrue, List, [], length, nat_eq, Some}
+use Rattle.std.specs.Prelude.{slice_get, slice_set, vec_capacity}
 use Rattle.std.specs.List.{Contains, IsDistinct}
 use Rattle.heap_layout.specs.declared.block.Kind.{Kind}
 use Rattle.heap_layout.specs.declared.block.Kind.TheVariants as kinds
 use Rattle.heap_layout.specs.declared.region.Region.{Region}
 use Rattle.heap_layout.specs.Zones.{first, BlockWords, block_at, offset_at}
-use Rattle.object_model.specs.Objects.{HeapState, with_words, block_word, has_kind, HasKind, owner_at, line_marked, size_of, blocks_for}
+use Rattle.object_model.specs.Objects.{HeapState, with_words, block_word, has_kind, HasKind, owner_at, line_marked}
+use Rattle.object_model.specs.Objects.{size_of, blocks_for}
 use Rattle.plan_api.specs.Counting.{session_counts}
 use Rattle.plan_api.specs.Relisting.{Relists}
 use Rattle.sessions.specs.Fitting.{HasHole, counts_of}

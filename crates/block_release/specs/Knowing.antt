@@ -9,7 +9,8 @@ use Rattle.sessions.specs.Plans.{Rules}
 use Rattle.trace_core.specs.Setups.{Setup, blocks}
 use Rattle.trace_core.specs.Machine.{Event}
 use Rattle.trace_core.specs.declared.run.TraceRun.{TraceRun}
-use Rattle.block_release.specs.Released.{UnlogBitsMarkSurvivors, LosesNothing, LinesOfTargetsAreMarked, LinesOfClaimedAreMarked, LineBitsMarkSurvivors, FlagShowsEvacuation}
+use Rattle.block_release.specs.Released.{UnlogBitsMarkSurvivors, LosesNothing, LinesOfTargetsAreMarked}
+use Rattle.block_release.specs.Released.{LinesOfClaimedAreMarked, LineBitsMarkSurvivors, FlagShowsEvacuation}
 use Rattle.block_release.specs.declared.releasing.Known.{Known}
 use Rattle.block_release.specs.declared.releasing.Known.TheVariants as known
 

@@ -2,7 +2,10 @@
 pub use Rattle.block_sweeps.specs.Sweeping.{InBlock}
 pub use Rattle.block_sweeps.specs.WordSweeps.{MaySweep, SweepsWords}
 pub use Rattle.block_release.specs.Knowing.{IsKnown, IsTracedUnder, ShowsRelease}
-pub use Rattle.block_release.specs.Released.{AreReleased, FlagShowsEvacuation, LineBitsMarkSurvivors, LinesOfClaimedAreMarked, LinesOfTargetsAreMarked, DiffersInSome, LosesNothing, ReleasesBelow, SweepsSome, UnlogBitsMarkSurvivors, UnlogWordMarksSurvivors, with_numbers}
+pub use Rattle.block_release.specs.Released.{AreReleased, FlagShowsEvacuation, LineBitsMarkSurvivors}
+pub use Rattle.block_release.specs.Released.{LinesOfClaimedAreMarked, LinesOfTargetsAreMarked, DiffersInSome}
+pub use Rattle.block_release.specs.Released.{LosesNothing, ReleasesBelow, SweepsSome, UnlogBitsMarkSurvivors}
+pub use Rattle.block_release.specs.Released.{UnlogWordMarksSurvivors, with_numbers}
 pub use Rattle.heap_layout.specs.Blocks.{IsValidWord, code_of, kind_code}
 pub use Rattle.heap_layout.specs.Zones.{IsRowOf, block_at}
 pub use Rattle.heap_layout.specs.declared.layout.Layout.{Layout}
@@ -10,7 +13,8 @@ pub use Rattle.heap_layout.specs.declared.layout.TheConstants.{BLOCK_LINES}
 pub use Rattle.object_model.specs.Ages.{Lives}
 pub use Rattle.object_model.specs.Heaps.{heap_state}
 pub use Rattle.object_model.specs.Lawful.{IsLawful}
-pub use Rattle.object_model.specs.Objects.{HasKind, HeapState, IsHeld, block_word, is_unlogged, line_marked, nums_at, refs_at, shown, state_of, state_over, word_at}
+pub use Rattle.object_model.specs.Objects.{HasKind, HeapState, IsHeld, block_word, is_unlogged, line_marked, nums_at}
+pub use Rattle.object_model.specs.Objects.{refs_at, shown, state_of, state_over, word_at}
 pub use Rattle.object_model.specs.Releasing.{IsReleasable}
 pub use Rattle.object_model.specs.declared.collect.Collect.{Collect}
 pub use Rattle.object_model.specs.declared.collect.Collect.TheVariants.{Full, Nursery}

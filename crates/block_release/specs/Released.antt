@@ -4,7 +4,8 @@ use Rattle.heap_layout.specs.Zones.{LineWords, bit_of, block_at}
 use Rattle.heap_layout.specs.declared.layout.TheConstants.{BLOCK_BIT_WORDS, BLOCK_LINES}
 use Rattle.heap_layout.specs.declared.block.Kind.TheVariants as kinds
 use Rattle.object_model.specs.declared.collect.Collect.{Collect}
-use Rattle.object_model.specs.Objects.{HeapState, HasKind, word_at, owner_at, line_marked, is_start, is_unlogged, IsHeld, size_at}
+use Rattle.object_model.specs.Objects.{HeapState, HasKind, word_at, owner_at, line_marked, is_start, is_unlogged}
+use Rattle.object_model.specs.Objects.{IsHeld, size_at}
 use Rattle.object_model.specs.Lines.{TouchesLine}
 use Rattle.object_model.specs.Ages.{is_survivor, Lives}
 use Rattle.object_model.specs.Lawful.{LineBitsAreExact}

@@ -31,8 +31,9 @@ pub enum Known {
 /// What is known after a tracing of a collection of this kind, which marked lines if `lines`. A
 /// nursery collection leaves the lines of young objects that died marked.
 pub fn known_after(collect: Collect, lines: bool) -> Known
-    ensures known { (r : Rules) (run : TraceRun) (p : Setup) (es : List Event) → IsTracedUnder r run p
-        → run.lines ≡ lines → (collect ≡ Full → lines ≡ true → LinesOfTargetsAreMarked p es)
+    ensures known { (r : Rules) (run : TraceRun) (p : Setup) (es : List Event)
+        → IsTracedUnder r run p → run.lines ≡ lines
+        → (collect ≡ Full → lines ≡ true → LinesOfTargetsAreMarked p es)
         → (collect ≡ Nursery → lines ≡ true → LinesOfClaimedAreMarked p es)
         → IsKnown r run p es result }
     ensures full { lines ≡ true → collect ≡ Full → result ≡ knowledge.FlagsAndLines }

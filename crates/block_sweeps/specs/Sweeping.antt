@@ -1,11 +1,14 @@
 -- Sweeps: what stays of a block once the objects in it that do not live are no longer held.
-use Rattle.heap_layout.specs.declared.layout.TheConstants.{BLOCK_LINES, BLOCK_WORDS, BLOCK_BIT_WORDS, BLOCK_LINE_BIT_WORDS}
+use Rattle.heap_layout.specs.declared.layout.TheConstants.{BLOCK_LINES, BLOCK_WORDS, BLOCK_BIT_WORDS}
+use Rattle.heap_layout.specs.declared.layout.TheConstants.{BLOCK_LINE_BIT_WORDS}
 use Rattle.std.specs.Prelude.{◌≡◌, ℕ, ◌+◌, ◌*◌, ◌<◌, ◌≤◌, ◌^◌, ◌⊎◌, ◌↔◌, ◌&&◌, IsTrue, false, length, count_by}
 use Rattle.std.specs.List.{range_with_len}
-use Rattle.heap_layout.specs.Zones.{block_at, block_start, first, IsAddress, BlockWords, LineWords, StartBits, PinBits, UnlogBits}
+use Rattle.heap_layout.specs.Zones.{block_at, block_start, first, IsAddress, BlockWords, LineWords, StartBits, PinBits}
+use Rattle.heap_layout.specs.Zones.{UnlogBits}
 use Rattle.heap_layout.specs.declared.block.Kind.TheVariants as kinds
 use Rattle.heap_layout.specs.Blocks.{kind_code}
-use Rattle.object_model.specs.Objects.{HeapState, HasKind, word_at, block_word, class_at, line_marked, is_start, is_pinned, is_unlogged, IsHeld, IsInExtent}
+use Rattle.object_model.specs.Objects.{HeapState, HasKind, word_at, block_word, class_at, line_marked, is_start}
+use Rattle.object_model.specs.Objects.{is_pinned, is_unlogged, IsHeld, IsInExtent}
 use Rattle.object_model.specs.Lawful.{IsTouched}
 use Rattle.object_model.specs.Ages.{Lives}
 use Rattle.object_model.specs.Releasing.{InSpan}

@@ -1,7 +1,5 @@
 -- Sums over numbers in a row: parts of them, sums of sums, and counts as sums.
 use Rattle.std.proofs.Common.{◌≡◌, ◌≢◌, refl, sym, ◌∙◌, ap, ℕ, ◌+◌, ◌<◌, ◌≤◌, inl, inr, arith, Bool, true, false, nat_eq, zero, suc, List, [], ◌∷◌, length}
-use Rattle.std.specs.Prelude.{count_by}
-use Rattle.std.specs.List.{range_with_len}
 use Rattle.std.proofs.lemmas.Bool.{cases_eq, eqb-true}
 use Rattle.object_model.specs.Times.{one_if, times}
 use Rattle.trace_core.proofs.CountedRights.{times-cons}
@@ -73,10 +71,6 @@ sum-swap f a (suc n) b k =
     let same : sum_over (λ j. sum_over (λ i. f i j) a (suc n)) b k ≡ sum_over (λ j. f a j + sum_over (λ i. f i j) (a + 1) n) b k
     = sum-same (λ j. sum_over (λ i. f i j) a (suc n)) (λ j. f a j + sum_over (λ i. f i j) (a + 1) n) b k (λ j _ _. sum-first (λ i. f i j) a n) in
     omega arith
-
--- how many numbers pass a test
-pub count-sum : (f : ℕ → Bool) (a n : ℕ) → count_by f (range_with_len a n) ≡ sum_over (λ i. one_if (f i)) a n
-count-sum f a n = refl
 
 -- numbers in a row are in a list no more often than it is long
 pub sum-times : (l : List ℕ) (a n : ℕ) → sum_over (λ i. times i l) a n ≤ length l

@@ -1,5 +1,6 @@
 -- What it takes to serve items of packets, and what is done then.
-use Rattle.std.specs.Prelude.{◌≡◌, ℕ, ◌+◌, ◌*◌, ◌<◌, ◌≤◌, ◌⊎◌, IsTrue, nat_eq, Some, List, [], ◌++◌, map, length, slice_index, if◌then◌else◌, All}
+use Rattle.std.specs.Prelude.{◌≡◌, ℕ, ◌+◌, ◌*◌, ◌<◌, ◌≤◌, ◌⊎◌, IsTrue, nat_eq, Some, List, [], ◌++◌, map, length}
+use Rattle.std.specs.Prelude.{slice_index, if◌then◌else◌, All}
 use Rattle.heap_layout.specs.Zones.{LineWords, bit_of}
 use Rattle.heap_layout.specs.declared.layout.TheConstants.{BLOCK_LINES}
 use Rattle.object_model.specs.Objects.{IsHeld}

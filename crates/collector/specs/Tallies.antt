@@ -1,5 +1,6 @@
 -- Counts of the objects that a collection preserves.
-use Rattle.std.specs.Prelude.{◌≡◌, ℕ, true, false, ◌+◌, ◌*◌, ◌-◌, ◌^◌, Bool, ◌&&◌, not, nat_eq, nat_lt, nat_le, List, length, count_by, sum_by, if◌then◌else◌}
+use Rattle.std.specs.Prelude.{◌≡◌, ℕ, true, false, ◌+◌, ◌*◌, ◌-◌, ◌^◌, Bool, ◌&&◌, not, nat_eq, nat_lt, nat_le, List}
+use Rattle.std.specs.Prelude.{length, count_by, sum_by, if◌then◌else◌}
 use Rattle.heap_layout.specs.declared.block.Kind.TheVariants as kinds
 use Rattle.object_model.specs.Objects.{HeapState, has_kind, is_start, number_at, size_at, block_count}
 use Rattle.object_model.specs.Ages.{is_old}

@@ -27,8 +27,8 @@ use write_barrier::{all_flags, logged_in_flagged};
 /// collection the logged objects, and the blocks are released. Old objects stay in a nursery
 /// collection, dead ones too. Under NoGC the collection number rises, and nothing else changes.
 ///
-/// `roots` are the mutators' registers. One worker takes a block to copy into only for an object that
-/// does not fit the last one, and then the lowest Free one. Several share the work.
+/// `roots` are the mutators' registers. One worker takes a block to copy into only for an object
+/// that does not fit the last one, and then the lowest Free one. Several share the work.
 ///
 /// Fails if memory runs out. The heap is lost then.
 pub fn collect<P: Plan, Q: Pool, G: Gate, R: Threads + Sync>(

@@ -41,9 +41,9 @@ pub fn offered_collections()
         → Remembers r new → IsOffered r Nursery new }
 {}
 
-/// Under a plan that holds back copies each block of a session's heap is Free, of a large object, or
-/// of a kind that a full collection evacuates: so it is after each epoch, and each step of a stop
-/// leaves it so. This is the premise of the clause `blocks` of `collect`.
+/// Under a plan that holds back copies each block of a session's heap is Free, of a large object,
+/// or of a kind that a full collection evacuates: so it is after each epoch, and each step of a
+/// stop leaves it so. This is the premise of the clause `blocks` of `collect`.
 pub fn sessions_evacuate_all_blocks()
     ensures session { (q : Plan) (t : Setting) (now : Moment) → (rules_of q).reserve ≡ Copies
         → t.rules ≡ rules_of q → InSession t now → EvacuatesAll t.rules Full now.heap }

@@ -1,5 +1,6 @@
 -- The usage of the command line: options, then files. A word is the list of its bytes.
-use Rattle.std.specs.Prelude.{ℕ, Bool, true, false, ◌&&◌, ◌||◌, not, List, [], ◌∷◌, length, Option, None, Some, nat_le, nat_lt, nat_eq, if◌then◌else◌, codes, slice_index, is_some, option_map, option_and_then}
+use Rattle.std.specs.Prelude.{ℕ, Bool, true, false, ◌&&◌, ◌||◌, not, List, [], ◌∷◌, length, Option, None, Some, nat_le}
+use Rattle.std.specs.Prelude.{nat_lt, nat_eq, if◌then◌else◌, codes, slice_index, is_some, option_map, option_and_then}
 use Rattle.std.specs.List.{list_all, position_or_len, before_first, after_first}
 use Rattle.std.specs.Str.{bytes_eq}
 use Rattle.trace_text.specs.Grammar.{numeral}

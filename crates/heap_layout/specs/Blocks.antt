@@ -1,9 +1,11 @@
 -- Block words, and the numbers that encode them.
-use Rattle.std.specs.Prelude.{ℕ, ◌+◌, ◌-◌, ◌*◌, ◌/◌, ◌%◌, Bool, false, ◌&&◌, nat_eq, nat_le, IsTrue, List, [], ◌∷◌, Option, Some, None, slice_get}
+use Rattle.std.specs.Prelude.{ℕ, ◌+◌, ◌-◌, ◌*◌, ◌/◌, ◌%◌, Bool, false, ◌&&◌, nat_eq, nat_le, IsTrue, List, [], ◌∷◌}
+use Rattle.std.specs.Prelude.{Option, Some, None, slice_get}
 use Rattle.heap_layout.specs.declared.block.TheConstants.{CLASSES, LAST_OWNER}
 use Rattle.heap_layout.specs.declared.block_codes.TheConstants.{CLASS_UNIT, OWNER_UNIT}
 use Rattle.heap_layout.specs.declared.block.Kind.{Kind}
-use Rattle.heap_layout.specs.declared.block.Kind.TheVariants.{Free, Bump, Young, Mature, Immix, Cells, LargeHead, LargeTail, Kept}
+use Rattle.heap_layout.specs.declared.block.Kind.TheVariants.{Free, Bump, Young, Mature, Immix, Cells, LargeHead}
+use Rattle.heap_layout.specs.declared.block.Kind.TheVariants.{LargeTail, Kept}
 use Rattle.heap_layout.specs.declared.block.BlockWord.{BlockWord}
 
 -- the number that encodes a kind

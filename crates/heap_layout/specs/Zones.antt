@@ -1,8 +1,10 @@
 -- The zones of a heap's row of words. b is the number of blocks. Indexes and sizes are in words.
-use Rattle.std.specs.Prelude.{ℕ, ◌≡◌, length, ◌+◌, ◌*◌, ◌-◌, ◌/◌, ◌%◌, ◌<◌, ◌≤◌, List, slice_index, nat_eq, nat_le, nat_lt, ◌&&◌, Bool}
+use Rattle.std.specs.Prelude.{ℕ, ◌≡◌, length, ◌+◌, ◌*◌, ◌-◌, ◌/◌, ◌%◌, ◌<◌, ◌≤◌, List, slice_index, nat_eq, nat_le}
+use Rattle.std.specs.Prelude.{nat_lt, ◌&&◌, Bool}
 use Rattle.std.specs.Int.{bit_at}
 use Rattle.heap_layout.specs.declared.layout.Layout.{Layout}
-use Rattle.heap_layout.specs.declared.layout.TheConstants.{STOP_WORD, BUDGET_WORD, BLOCK_BIT_WORDS, BLOCK_LINE_BIT_WORDS, BLOCK_WORDS, LINE_WORDS, GLOBALS}
+use Rattle.heap_layout.specs.declared.layout.TheConstants.{STOP_WORD, BUDGET_WORD, BLOCK_BIT_WORDS}
+use Rattle.heap_layout.specs.declared.layout.TheConstants.{BLOCK_LINE_BIT_WORDS, BLOCK_WORDS, LINE_WORDS, GLOBALS}
 
 -- the parts of the row, in order
 pub data Zone : Type 0 where

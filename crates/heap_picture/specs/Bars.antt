@@ -2,7 +2,8 @@
 --
 -- A block's cell is 16 rows of 256 words, and there are 16 cells in a row. Word i of the heap is
 -- the unit square at column x and row y.
-use Rattle.std.specs.Prelude.{ℕ, ◌+◌, ◌-◌, ◌*◌, ◌/◌, ◌%◌, ◌<◌, ◌≤◌, ◌⊎◌, List, [], ◌∷◌, ◌++◌, nat_eq, nat_le, min, if◌then◌else◌}
+use Rattle.std.specs.Prelude.{ℕ, ◌+◌, ◌-◌, ◌*◌, ◌/◌, ◌%◌, ◌<◌, ◌≤◌, ◌⊎◌, List, [], ◌∷◌, ◌++◌, nat_eq, nat_le, min}
+use Rattle.std.specs.Prelude.{if◌then◌else◌}
 use Rattle.object_model.specs.declared.shape.TheConstants.{MAX_MEDIUM_WORDS}
 use Rattle.ideal_heap.specs.Names.{name}
 use Rattle.driver.specs.Texts.{MapPlace}

@@ -1,5 +1,6 @@
 -- The lines of a run's text: words, each with a number after it.
-use Rattle.std.specs.Prelude.{ℕ, Bool, true, false, not, ◌||◌, List, length, drop, Option, None, Some, Result, Ok, Err, nat_eq, eqb, if◌then◌else◌, codes, is_some, option_and_then, option_map}
+use Rattle.std.specs.Prelude.{ℕ, Bool, true, false, not, ◌||◌, List, length, drop, Option, None, Some, Result, Ok, Err}
+use Rattle.std.specs.Prelude.{nat_eq, eqb, if◌then◌else◌, codes, is_some, option_and_then, option_map}
 use Rattle.std.specs.List.{starts_with, before_first, position_or_len}
 use Rattle.std.specs.Char.{is_ascii_digit}
 use Rattle.std.specs.Str.{bytes_eq}

@@ -1,5 +1,7 @@
 -- How far the text of a run has been read, and what each line adds.
-use Rattle.std.specs.Prelude.{◌≡◌, ℕ, ◌+◌, ◌-◌, ◌*◌, ◌/◌, Bool, true, false, not, ◌&&◌, ◌||◌, List, [], ◌∷◌, ◌++◌, length, replicate, Option, None, Some, Result, Ok, Err, nat_eq, nat_lt, nat_le, if◌then◌else◌, codes, slice_get, slice_index_or, slice_set, option_and_then}
+use Rattle.std.specs.Prelude.{◌≡◌, ℕ, ◌+◌, ◌-◌, ◌*◌, ◌/◌, Bool, true, false, not, ◌&&◌, ◌||◌, List, [], ◌∷◌, ◌++◌}
+use Rattle.std.specs.Prelude.{length, replicate, Option, None, Some, Result, Ok, Err, nat_eq, nat_lt, nat_le}
+use Rattle.std.specs.Prelude.{if◌then◌else◌, codes, slice_get, slice_index_or, slice_set, option_and_then}
 use Rattle.std.specs.Borrow.{Bor}
 use Rattle.std.specs.List.{list_all, range_with_len}
 use Rattle.std.specs.Str.{bytes_eq}
@@ -24,7 +26,8 @@ use Rattle.heap_picture.specs.declared.reader.Stage.TheVariants as stages
 use Rattle.heap_picture.specs.declared.reader.TextFault.{TextFault}
 use Rattle.heap_picture.specs.declared.reader.TextFault.TheVariants as fault
 use Rattle.heap_picture.specs.declared.reader.TheConstants.{NUMBERS}
-use Rattle.heap_picture.specs.Forms.{LARGE, Numbered, kinds_in, name_in, one_number, place_in, ref_in, reply_in, two_numbers}
+use Rattle.heap_picture.specs.Forms.{LARGE, Numbered, kinds_in, name_in, one_number, place_in, ref_in, reply_in}
+use Rattle.heap_picture.specs.Forms.{two_numbers}
 use Rattle.heap_picture.specs.Marks.{first_word, is_taken, is_used, room_words}
 
 -- a number and the text after it, as the code has them

@@ -1,6 +1,7 @@
 -- The text of a run with a map, as it is printed: replies, report and map.
 use Rattle.heap_picture.specs.Marks.{is_used}
-use Rattle.std.specs.Prelude.{◌≡◌, ℕ, ◌+◌, ◌-◌, ◌*◌, ◌≤◌, ◌<◌, ◌^◌, Bool, true, List, [], ◌∷◌, ◌++◌, length, map, slice_index_or, nat_eq, if◌then◌else◌, codes}
+use Rattle.std.specs.Prelude.{◌≡◌, ℕ, ◌+◌, ◌-◌, ◌*◌, ◌≤◌, ◌<◌, ◌^◌, Bool, true, List, [], ◌∷◌, ◌++◌, length, map}
+use Rattle.std.specs.Prelude.{slice_index_or, nat_eq, if◌then◌else◌, codes}
 use Rattle.std.specs.List.{All, AllPairs, count_by, flat_map, sum_by, range_with_len}
 use Rattle.std.specs.Fmt.{decimal}
 use Rattle.ideal_heap.specs.Names.{IsBefore, name}

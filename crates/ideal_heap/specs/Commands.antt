@@ -1,7 +1,8 @@
 -- The ranges of the numbers in a command, and tests of its kind.
 use Rattle.std.specs.Prelude.{ℕ, ◌≤◌, ◌<◌, ◌^◌, ◌+◌, ◌-◌, Bool, true, false}
 use Rattle.ideal_heap.specs.declared.command.Command.{Command}
-use Rattle.ideal_heap.specs.declared.command.Command.TheVariants.{New, Get, Put, Read, Write, Add, Swap, Move, DropReg, Load, Share, Pin, Unpin, Gc, Meet}
+use Rattle.ideal_heap.specs.declared.command.Command.TheVariants.{New, Get, Put, Read, Write, Add, Swap, Move, DropReg}
+use Rattle.ideal_heap.specs.declared.command.Command.TheVariants.{Load, Share, Pin, Unpin, Gc, Meet}
 use Rattle.ideal_heap.specs.declared.command.TheConstants.{MAX_REGISTER, MAX_GLOBAL, MAX_REFS, MAX_NUMS}
 
 -- each register, global, index and number is in its range

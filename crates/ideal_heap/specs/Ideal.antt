@@ -1,6 +1,8 @@
 -- The ideal heap: a map from names to records, without addresses or collections. No record is ever
 -- removed.
-use Rattle.std.specs.Prelude.{◌≡◌, ℕ, ◌+◌, ◌%◌, ◌^◌, Bool, true, false, List, length, Option, None, Some, nat_eq, nat_lt, if◌then◌else◌, slice_index, slice_get, slice_set, replicate, unwrap_or, ◌≤◌, ◌<◌, IsSome, IsTrue, Contains}
+use Rattle.std.specs.Prelude.{◌≡◌, ℕ, ◌+◌, ◌%◌, ◌^◌, Bool, true, false, List, length, Option, None, Some, nat_eq}
+use Rattle.std.specs.Prelude.{nat_lt, if◌then◌else◌, slice_index, slice_get, slice_set, replicate, unwrap_or, ◌≤◌, ◌<◌}
+use Rattle.std.specs.Prelude.{IsSome, IsTrue, Contains}
 use Rattle.ideal_heap.specs.declared.name.Name.{Name}
 use Rattle.ideal_heap.specs.declared.command.Command.{Command}
 use Rattle.ideal_heap.specs.declared.command.TheConstants.{REGISTERS, GLOBALS}

@@ -1,5 +1,6 @@
 -- Runs of an ideal heap, and the orders that `meet` allows for the commands of several mutators.
-use Rattle.std.specs.Prelude.{◌≡◌, ℕ, ◌+◌, ◌*◌, ◌≤◌, Bool, true, false, List, [], ◌∷◌, ◌++◌, map, filter, length, take, nat_eq, if◌then◌else◌, ◌⊎◌, slice_get, unwrap_or, Option, IsTrue, IfSome, zero, suc}
+use Rattle.std.specs.Prelude.{◌≡◌, ℕ, ◌+◌, ◌*◌, ◌≤◌, Bool, true, false, List, [], ◌∷◌, ◌++◌, map, filter, length, take}
+use Rattle.std.specs.Prelude.{nat_eq, if◌then◌else◌, ◌⊎◌, slice_get, unwrap_or, Option, IsTrue, IfSome, zero, suc}
 use Rattle.std.specs.List.{AllByRecursion}
 use Rattle.ideal_heap.specs.declared.command.Command.{Command}
 use Rattle.ideal_heap.specs.declared.reply.Reply.{Reply}

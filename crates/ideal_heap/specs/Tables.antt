@@ -1,5 +1,6 @@
 -- The ideal heap that tables represent.
-use Rattle.std.specs.Prelude.{ℕ, ◌≤◌, false, List, length, Option, None, slice_get, unwrap_or, map, zero, suc, option_and_then}
+use Rattle.std.specs.Prelude.{ℕ, ◌≤◌, false, List, length, Option, None, slice_get, unwrap_or, map, zero, suc}
+use Rattle.std.specs.Prelude.{option_and_then}
 use Rattle.std.specs.Option.{option_map, option_map_or}
 use Rattle.ideal_heap.specs.declared.name.Name.{Name}
 use Rattle.ideal_heap.specs.declared.tables.Object.{Object}

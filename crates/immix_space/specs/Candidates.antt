@@ -1,5 +1,6 @@
 -- Candidates for evacuation, by the holes and marked lines of all blocks.
-use Rattle.std.specs.Prelude.{ℕ, ◌+◌, ◌≤◌, Bool, ◌&&◌, nat_eq, nat_lt, nat_le, if◌then◌else◌, List, sum_by, slice_index_or, take}
+use Rattle.std.specs.Prelude.{ℕ, ◌+◌, ◌≤◌, Bool, ◌&&◌, nat_eq, nat_lt, nat_le, if◌then◌else◌, List, sum_by}
+use Rattle.std.specs.Prelude.{slice_index_or, take}
 use Rattle.heap_layout.specs.declared.layout.TheConstants.{BLOCK_LINES}
 use Rattle.object_model.specs.Objects.{HeapState}
 use Rattle.sessions.specs.Collecting.{holes_in, marked_in, is_recyclable}

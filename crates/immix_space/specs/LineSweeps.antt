@@ -7,7 +7,8 @@ use Rattle.heap_layout.specs.Blocks.{kind_code}
 use Rattle.object_model.specs.Objects.{HeapState, block_word, line_marked}
 use Rattle.object_model.specs.Lawful.{IsTouched}
 use Rattle.object_model.specs.Ages.{Lives}
-use Rattle.block_sweeps.specs.Sweeping.{InBlock, KeepsLiving, HasNoLiving, IsFreed, IsTouchedHere, IsMetadata, ChangesOnly}
+use Rattle.block_sweeps.specs.Sweeping.{InBlock, KeepsLiving, HasNoLiving, IsFreed, IsTouchedHere, IsMetadata}
+use Rattle.block_sweeps.specs.Sweeping.{ChangesOnly}
 
 -- Block k was swept. If nothing lives in it, it is Free; else it is an Immix block without an
 -- owner. A line of it is marked if and only if an object that is left in the block touches the

@@ -1,6 +1,7 @@
 -- First and last bits, and runs of clear bits, in a list of words.
 use Rattle.heap_layout.specs.declared.layout.TheConstants.{BLOCK_LINES}
-use Rattle.std.specs.Prelude.{◌≡◌, ℕ, ◌+◌, ◌*◌, ◌-◌, ◌/◌, ◌%◌, ◌<◌, ◌≤◌, ◌⊎◌, Bool, true, false, List, length, slice_index, nat_eq}
+use Rattle.std.specs.Prelude.{◌≡◌, ℕ, ◌+◌, ◌*◌, ◌-◌, ◌/◌, ◌%◌, ◌<◌, ◌≤◌, ◌⊎◌, Bool, true, false, List, length}
+use Rattle.std.specs.Prelude.{slice_index, nat_eq}
 use Rattle.std.specs.Int.{bit_at}
 use Rattle.side_meta.specs.declared.word.TheConstants.{BITS_PER_WORD}
 

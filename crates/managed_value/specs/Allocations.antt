@@ -24,7 +24,8 @@ use Rattle.managed_heap.specs.declared.place.Placed.TheVariants as placed
 use Rattle.managed_value.specs.declared.managed.ManagedHeap.{ManagedHeap}
 use Rattle.managed_value.specs.declared.allocate.Refused.{Refused}
 use Rattle.managed_value.specs.declared.allocate.Refused.TheVariants.{Full, OutOfMemory}
-use Rattle.managed_value.specs.Histories.{IsUsable, IsLost, AddsHeapEntry, KeepsEntries, IsAsBefore, mutators_of_heap, heap_births_at, words_used, collections_made}
+use Rattle.managed_value.specs.Histories.{IsUsable, IsLost, AddsHeapEntry, KeepsEntries, IsAsBefore, mutators_of_heap}
+use Rattle.managed_value.specs.Histories.{heap_births_at, words_used, collections_made}
 use Rattle.managed_value.specs.Epochs.{EndsWith, BeginsWith}
 
 -- The mutator at place m has a name left for an object, and two collections may be made for it.

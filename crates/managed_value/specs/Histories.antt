@@ -10,7 +10,8 @@ use Rattle.object_model.specs.declared.shape.Shape.{Shape}
 use Rattle.sessions.specs.Plans.{Rules}
 use Rattle.sessions.specs.Sessions.{Setting, Moment, IsSound, ideal_at}
 use Rattle.heap_users.specs.Beginnings.{epoch_of}
-use Rattle.managed_heap.specs.Worlds.{PlainWorld, HasHistory, IsOpen, places_of, budget_word, births_at as births_in, AddsEntries as AddsToWorld}
+use Rattle.managed_heap.specs.Worlds.{PlainWorld, HasHistory, IsOpen, places_of, budget_word, births_at as births_in}
+use Rattle.managed_heap.specs.Worlds.{AddsEntries as AddsToWorld}
 use Rattle.managed_value.specs.declared.managed.ManagedHeap.{ManagedHeap}
 
 -- The heap and the mutators are gone: the host's memory ran out as they were handed on.

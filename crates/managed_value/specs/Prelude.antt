@@ -9,9 +9,13 @@ pub use Rattle.ideal_heap.specs.declared.command.TheConstants.{MAX_MUTATORS, REG
 pub use Rattle.ideal_heap.specs.declared.reply.Reply.{Reply}
 pub use Rattle.managed_heap.specs.Needs.{reply_of}
 pub use Rattle.managed_heap.specs.Stopped.{IsManaged, IsStopped, count_of_mutators as stopped_count}
-pub use Rattle.managed_value.specs.Allocations.{AllocatesInEpoch, CollectsAll, CollectsAtStop, FindsNoRoom, HeapMayAllocate, IsEmpty, Makes, MatchAnswer, MatchRefused, RepliesFull, RunsOut, RunsOutAtStop, ServesAtStop, StopsFor, kept_by, used_with}
+pub use Rattle.managed_value.specs.Allocations.{AllocatesInEpoch, CollectsAll, CollectsAtStop, FindsNoRoom}
+pub use Rattle.managed_value.specs.Allocations.{HeapMayAllocate, IsEmpty, Makes, MatchAnswer, MatchRefused, RepliesFull}
+pub use Rattle.managed_value.specs.Allocations.{RunsOut, RunsOutAtStop, ServesAtStop, StopsFor, kept_by, used_with}
 pub use Rattle.managed_value.specs.Epochs.{BeginsWith, EndsWith}
-pub use Rattle.managed_value.specs.Histories.{AddsHeapEntry, EntersCall, HasEntries, HeapHasPlace, IsAsBeforeOrLost, IsLost, IsUsable, KeepsEntries, StandsFor, collections_made, heap_births_at, mutators_of_heap, shape_of_object, words_used}
+pub use Rattle.managed_value.specs.Histories.{AddsHeapEntry, EntersCall, HasEntries, HeapHasPlace, IsAsBeforeOrLost}
+pub use Rattle.managed_value.specs.Histories.{IsLost, IsUsable, KeepsEntries, StandsFor, collections_made}
+pub use Rattle.managed_value.specs.Histories.{heap_births_at, mutators_of_heap, shape_of_object, words_used}
 pub use Rattle.managed_value.specs.declared.managed.ManagedHeap.{ManagedHeap}
 pub use Rattle.mutator_calls.specs.Allocating.{IsNeedOf, MatchAllocated}
 pub use Rattle.mutator_calls.specs.declared.need.Mutator.{Mutator as User}

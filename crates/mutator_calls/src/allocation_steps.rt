@@ -166,8 +166,8 @@ pub trait AllocationSteps: MutatorSteps {
             → offers_room self.old c n }
         ensures books { books self.new ≡ books self.old };
 
-    /// Draws a ticket: the budget word rises by 1. The ticket is the number that the step finds, and
-    /// the drawing is all that is done from there on.
+    /// Draws a ticket: the budget word rises by 1. The ticket is the number that the step finds,
+    /// and the drawing is all that is done from there on.
     fn draw_ticket(&mut self) -> u32
         requires ready { Self.is_ready self.old }
         requires none { (books self.old).ticket ≡ None }

@@ -8,7 +8,8 @@ use Rattle.std.specs.List.{Contains}
 use Rattle.heap_layout.specs.Blocks.{IsValidWord, code_of}
 use Rattle.ideal_heap.specs.declared.name.Name.{Name}
 use Rattle.ideal_heap.specs.Names.{name}
-use Rattle.object_model.specs.Objects.{HeapState, word_at, block_word, line_marked, is_unlogged, IsHeld, size_at, size_of}
+use Rattle.object_model.specs.Objects.{HeapState, word_at, block_word, line_marked, is_unlogged, IsHeld, size_at}
+use Rattle.object_model.specs.Objects.{size_of}
 use Rattle.object_model.specs.Lawful.{IsLawful, FreeBlockIsClear}
 use Rattle.object_model.specs.Graphs.{numbers_of}
 use Rattle.sessions.specs.Collecting.{Remembers}

@@ -2,7 +2,8 @@
 -- definitions give the index of that word, the word after the step, the answer, and the mutator's
 -- state after the step.
 use Rattle.object_model.specs.declared.shape.TheConstants.{NUMS_UNIT, COLLECTOR_OFFSET, HEADER_WORDS, SHAPE_OFFSET}
-use Rattle.std.specs.Prelude.{ℕ, zero, suc, ◌+◌, ◌/◌, ◌%◌, ◌^◌, Bool, true, false, if◌then◌else◌, nat_eq, Some, None, List, [], ◌∷◌, map, slice_index, slice_set}
+use Rattle.std.specs.Prelude.{ℕ, zero, suc, ◌+◌, ◌/◌, ◌%◌, ◌^◌, Bool, true, false, if◌then◌else◌, nat_eq, Some, None}
+use Rattle.std.specs.Prelude.{List, [], ◌∷◌, map, slice_index, slice_set}
 use Rattle.std.specs.Int.{bit_at}
 use Rattle.heap_layout.specs.Zones.{StopWord, BudgetWord, Globals, BlockWords, StartBits, PinBits, UnlogBits, first}
 use Rattle.heap_layout.specs.Blocks.{code_of}

@@ -2,7 +2,8 @@
 use Rattle.std.specs.Prelude.{◌≡◌, ℕ, ◌+◌, ◌<◌, Bool, ◌&&◌, not, IsTrue, nat_eq, nat_le, List, length, slice_index}
 use Rattle.forward_word.specs.CollectorWords.{is_old_word}
 use Rattle.object_model.specs.declared.shape.TheConstants.{COLLECTOR_OFFSET}
-use Rattle.object_model.specs.Objects.{HeapState, word_at, is_start, is_unlogged, IsHeld, refs_at, number_at, target_at, ref_at, is_reference}
+use Rattle.object_model.specs.Objects.{HeapState, word_at, is_start, is_unlogged, IsHeld, refs_at, number_at, target_at}
+use Rattle.object_model.specs.Objects.{ref_at, is_reference}
 use Rattle.object_model.specs.Times.{times, one_if}
 
 -- The object is old: the last full collection or a later one claimed it. While the base is 0 none

@@ -5,7 +5,8 @@ use Rattle.std.specs.List.{AllByRecursion}
 use Rattle.ideal_heap.specs.declared.command.TheConstants.{REGISTERS}
 use Rattle.heap_layout.specs.declared.layout.TheConstants.{GLOBALS}
 use Rattle.ideal_heap.specs.Ideal.{IdealHeap}
-use Rattle.object_model.specs.Objects.{HeapState, global_at, is_pinned, IsHeld, name_at, refs_at, ref_at, is_reference, record_at}
+use Rattle.object_model.specs.Objects.{HeapState, global_at, is_pinned, IsHeld, name_at, refs_at, ref_at, is_reference}
+use Rattle.object_model.specs.Objects.{record_at}
 use Rattle.object_model.specs.Graphs.{MutatorState, AreMutators, AreBirths, ArePointers, register_at}
 use Rattle.object_model.specs.Lawful.{IsWellFormed}
 

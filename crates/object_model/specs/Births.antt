@@ -7,7 +7,8 @@ use Rattle.heap_layout.specs.declared.block.BlockWord.{BlockWord}
 use Rattle.heap_layout.specs.declared.block.Kind.TheVariants as kinds
 use Rattle.ideal_heap.specs.declared.name.Name.{Name}
 use Rattle.ideal_heap.specs.Names.{IsName}
-use Rattle.object_model.specs.Objects.{HeapState, with_words, word_at, block_word, HasKind, IsHeld, IsInExtent, name_at, size_of, blocks_for}
+use Rattle.object_model.specs.Objects.{HeapState, with_words, word_at, block_word, HasKind, IsHeld, IsInExtent, name_at}
+use Rattle.object_model.specs.Objects.{size_of, blocks_for}
 use Rattle.object_model.specs.Lawful.{LiesInBlock, IsClear}
 use Rattle.object_model.specs.Lines.{TouchesLine}
 use Rattle.object_model.specs.Changes.{WritesObject}

@@ -4,7 +4,8 @@ use Rattle.heap_layout.specs.Zones.{StartBits, PinBits, UnlogBits, first, heap_o
 use Rattle.ideal_heap.specs.declared.name.Name.{Name}
 use Rattle.ideal_heap.specs.Names.{name_code}
 use Rattle.object_model.specs.declared.shape.TheConstants.{COLLECTOR_OFFSET, HEADER_WORDS, SHAPE_OFFSET}
-use Rattle.object_model.specs.Objects.{HeapState, word_at, block_word, line_marked, is_start, is_pinned, is_unlogged, IsHeld, size_of, shape_code}
+use Rattle.object_model.specs.Objects.{HeapState, word_at, block_word, line_marked, is_start, is_pinned, is_unlogged}
+use Rattle.object_model.specs.Objects.{IsHeld, size_of, shape_code}
 use Rattle.heap_layout.specs.declared.layout.TheConstants.{BLOCK_WORDS}
 use Rattle.side_meta.specs.declared.word.TheConstants.{BITS_PER_WORD}
 

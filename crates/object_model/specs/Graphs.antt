@@ -1,12 +1,14 @@
 -- The objects that are reachable from roots and globals, and when a heap represents an ideal heap.
-use Rattle.std.specs.Prelude.{◌≡◌, ℕ, ◌+◌, ◌<◌, ◌≤◌, ◌↔◌, IsTrue, Option, None, Some, List, map, length, replicate, slice_index, slice_set, nat_eq, if◌then◌else◌}
+use Rattle.std.specs.Prelude.{◌≡◌, ℕ, ◌+◌, ◌<◌, ◌≤◌, ◌↔◌, IsTrue, Option, None, Some, List, map, length, replicate}
+use Rattle.std.specs.Prelude.{slice_index, slice_set, nat_eq, if◌then◌else◌}
 use Rattle.std.specs.List.{flat_map, AllByRecursion, Any}
 use Rattle.ideal_heap.specs.declared.command.TheConstants.{MAX_MUTATORS, REGISTERS}
 use Rattle.heap_layout.specs.declared.layout.TheConstants.{GLOBALS}
 use Rattle.ideal_heap.specs.declared.name.Name.{Name}
 use Rattle.ideal_heap.specs.Ideal.{IdealHeap, IsConfined}
 use Rattle.ideal_heap.specs.Reach.{PathReaches}
-use Rattle.object_model.specs.Objects.{HeapState, global_at, is_pinned, IsHeld, name_at, refs_at, ref_at, is_reference, record_at}
+use Rattle.object_model.specs.Objects.{HeapState, global_at, is_pinned, IsHeld, name_at, refs_at, ref_at, is_reference}
+use Rattle.object_model.specs.Objects.{record_at}
 use Rattle.object_model.specs.Lawful.{IsRoot}
 
 -- A path from a root or a global, along reference fields, leads to the address.

@@ -1,11 +1,15 @@
 -- The heap invariant: when a heap is lawful. Each part is a relation of its own.
-use Rattle.std.specs.Prelude.{◌≡◌, ◌≢◌, ℕ, ◌+◌, ◌*◌, ◌%◌, ◌^◌, ◌<◌, ◌≤◌, Bool, ◌&&◌, ◌||◌, IsTrue, List, length, nat_lt, slice_index, EachIndex}
+use Rattle.std.specs.Prelude.{◌≡◌, ◌≢◌, ℕ, ◌+◌, ◌*◌, ◌%◌, ◌^◌, ◌<◌, ◌≤◌, Bool, ◌&&◌, ◌||◌, IsTrue, List, length, nat_lt}
+use Rattle.std.specs.Prelude.{slice_index, EachIndex}
 use Rattle.std.specs.List.{range_with_len, list_any}
 use Rattle.heap_layout.specs.Zones.{row_words, block_at, offset_at, block_start, IsAddress}
 use Rattle.heap_layout.specs.declared.block.Kind.TheVariants as kinds
 use Rattle.heap_layout.specs.Blocks.{is_block_code}
 use Rattle.ideal_heap.specs.Names.{IsName}
-use Rattle.object_model.specs.Objects.{HeapState, word_at, global_at, block_word, has_kind, HasKind, class_at, owner_at, line_marked, is_start, is_pinned, is_unlogged, IsHeld, name_at, refs_at, nums_at, size_at, number_at, target_at, ref_at, is_reference, IsInExtent, IsInExtentOf, cell_words, blocks_for}
+use Rattle.object_model.specs.Objects.{HeapState, word_at, global_at, block_word, has_kind, HasKind, class_at, owner_at}
+use Rattle.object_model.specs.Objects.{line_marked, is_start, is_pinned, is_unlogged, IsHeld, name_at, refs_at, nums_at}
+use Rattle.object_model.specs.Objects.{size_at, number_at, target_at, ref_at, is_reference, IsInExtent, IsInExtentOf}
+use Rattle.object_model.specs.Objects.{cell_words, blocks_for}
 use Rattle.heap_layout.specs.declared.layout.TheConstants.{BLOCK_LINES, BLOCK_WORDS, MAX_BLOCKS, GLOBALS, MIN_BLOCKS}
 use Rattle.ideal_heap.specs.declared.command.TheConstants.{MAX_REFS, MAX_NUMS}
 use Rattle.object_model.specs.Lines.{TouchesLine}

@@ -1,8 +1,10 @@
 -- The state of a heap, and how blocks, bits, globals and objects are read from its row of words.
-use Rattle.std.specs.Prelude.{ℕ, ◌+◌, ◌-◌, ◌*◌, ◌/◌, ◌%◌, ◌<◌, ◌≤◌, Bool, ◌&&◌, not, List, [], ◌∷◌, map, replicate, slice_index, nat_eq, nat_lt, IsTrue, if◌then◌else◌, count_by}
+use Rattle.std.specs.Prelude.{ℕ, ◌+◌, ◌-◌, ◌*◌, ◌/◌, ◌%◌, ◌<◌, ◌≤◌, Bool, ◌&&◌, not, List, [], ◌∷◌, map, replicate}
+use Rattle.std.specs.Prelude.{slice_index, nat_eq, nat_lt, IsTrue, if◌then◌else◌, count_by}
 use Rattle.std.specs.List.{range_with_len}
 use Rattle.forward_word.specs.CollectorWords.{number_in, target_in}
-use Rattle.heap_layout.specs.Zones.{row_words, first, Globals, BlockWords, LineWords, StartBits, PinBits, UnlogBits, bit_of, address_bit, IsAddress}
+use Rattle.heap_layout.specs.Zones.{row_words, first, Globals, BlockWords, LineWords, StartBits, PinBits, UnlogBits}
+use Rattle.heap_layout.specs.Zones.{bit_of, address_bit, IsAddress}
 use Rattle.heap_layout.specs.declared.block.Kind.{Kind}
 use Rattle.heap_layout.specs.declared.block_codes.TheConstants.{CLASS_UNIT, OWNER_UNIT}
 use Rattle.heap_layout.specs.declared.layout.Layout.{Layout}

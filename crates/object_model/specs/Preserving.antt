@@ -3,7 +3,8 @@
 use Rattle.std.specs.Prelude.{◌≡◌, ℕ, ◌<◌, Bool, false, ◌&&◌, not, IsTrue, nat_le, if◌then◌else◌, List, map}
 use Rattle.heap_layout.specs.declared.layout.TheConstants.{GLOBALS}
 use Rattle.heap_layout.specs.Zones.{block_at}
-use Rattle.object_model.specs.Objects.{HeapState, is_pinned, IsHeld, name_at, refs_at, nums_at, size_at, ref_at, num_at, global_at, is_reference}
+use Rattle.object_model.specs.Objects.{HeapState, is_pinned, IsHeld, name_at, refs_at, nums_at, size_at, ref_at, num_at}
+use Rattle.object_model.specs.Objects.{global_at, is_reference}
 use Rattle.object_model.specs.Graphs.{IsReachable}
 use Rattle.object_model.specs.declared.shape.TheConstants.{MAX_MEDIUM_WORDS}
 

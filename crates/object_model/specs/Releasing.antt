@@ -4,7 +4,8 @@ use Rattle.heap_layout.specs.declared.layout.TheConstants.{BLOCK_LINES}
 use Rattle.heap_layout.specs.Zones.{block_at, block_start, IsAddress}
 use Rattle.heap_layout.specs.declared.block.Kind.TheVariants as kinds
 use Rattle.heap_layout.specs.Blocks.{is_block_code}
-use Rattle.object_model.specs.Objects.{HeapState, block_word, HasKind, class_at, line_marked, is_start, is_pinned, is_unlogged, IsHeld, size_at, IsInExtent}
+use Rattle.object_model.specs.Objects.{HeapState, block_word, HasKind, class_at, line_marked, is_start, is_pinned}
+use Rattle.object_model.specs.Objects.{is_unlogged, IsHeld, size_at, IsInExtent}
 use Rattle.object_model.specs.Lawful.{HasObject, Lies}
 use Rattle.object_model.specs.declared.shape.TheConstants.{MAX_MEDIUM_WORDS}
 

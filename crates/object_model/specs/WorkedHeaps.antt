@@ -1,9 +1,11 @@
 -- Worked heaps: four blocks with one object at the first address, and heaps that are built from
 -- blocks and objects.
-use Rattle.std.specs.Prelude.{ℕ, ◌+◌, ◌*◌, ◌-◌, ◌/◌, ◌%◌, ◌^◌, Bool, true, false, ◌&&◌, if◌then◌else◌, nat_eq, nat_le, nat_lt, List, ◌∷◌, ◌++◌, length, map, replicate, sum_by, slice_index, slice_set}
+use Rattle.std.specs.Prelude.{ℕ, ◌+◌, ◌*◌, ◌-◌, ◌/◌, ◌%◌, ◌^◌, Bool, true, false, ◌&&◌, if◌then◌else◌, nat_eq, nat_le}
+use Rattle.std.specs.Prelude.{nat_lt, List, ◌∷◌, ◌++◌, length, map, replicate, sum_by, slice_index, slice_set}
 use Rattle.std.specs.List.{range_with_len, list_any}
 use Rattle.forward_word.specs.CollectorWords.{collector_word}
-use Rattle.heap_layout.specs.Zones.{row_words, first, Globals, BlockWords, LineWords, StartBits, PinBits, UnlogBits, HeapWords}
+use Rattle.heap_layout.specs.Zones.{row_words, first, Globals, BlockWords, LineWords, StartBits, PinBits, UnlogBits}
+use Rattle.heap_layout.specs.Zones.{HeapWords}
 use Rattle.heap_layout.specs.Blocks.{code_of}
 use Rattle.heap_layout.specs.declared.block.BlockWord.{BlockWord}
 use Rattle.heap_layout.specs.declared.block.Kind.{Kind}

@@ -1,5 +1,6 @@
 -- Reading a whole file.
-use Rattle.std.specs.Prelude.{◌≡◌, ℕ, ◌≤◌, ◌⊎◌, List, [], ◌∷◌, ◌++◌, length, take, drop, Option, Some, IfSome, Result, Ok, Err}
+use Rattle.std.specs.Prelude.{◌≡◌, ℕ, ◌≤◌, ◌⊎◌, List, [], ◌∷◌, ◌++◌, length, take, drop, Option, Some, IfSome, Result}
+use Rattle.std.specs.Prelude.{Ok, Err}
 use Rattle.outside.specs.declared.reader.ReadFault.{ReadFault}
 use Rattle.outside.specs.declared.reader.ReadFault.TheVariants as fault
 use Rattle.outside.specs.declared.reader.TheConstants.{MAX_FILE_BYTES}

@@ -1,7 +1,8 @@
 -- Effects, one after another. What the laws of the trait of steps say of a row stands in specs/,
 -- since an impl's laws cannot come from the crate's own proofs/: here is what they cite, and no
 -- more.
-use Rattle.std.proofs.Common.{◌≡◌, ◌≢◌, refl, sym, ◌∙◌, ap, subst, ℕ, ◌+◌, inl, inr, arith, Bool, true, false, ◌&&◌, ◌||◌, not, ◌<◌, suc, length, add-zero, add_assoc, List, [], ◌∷◌, ◌++◌, map, nat_eq}
+use Rattle.std.proofs.Common.{◌≡◌, ◌≢◌, refl, sym, ◌∙◌, ap, subst, ℕ, ◌+◌, inl, inr, arith, Bool, true, false, ◌&&◌}
+use Rattle.std.proofs.Common.{◌||◌, not, ◌<◌, suc, length, add-zero, add_assoc, List, [], ◌∷◌, ◌++◌, map, nat_eq}
 use Rattle.std.proofs.lemmas.List.{append_assoc, append-nil, map-append}
 use Rattle.std.proofs.lemmas.List.Folds.{list_any-append}
 use Rattle.std.proofs.lemmas.List.Sums.{sum_by-append}
@@ -30,7 +31,8 @@ use Rattle.mutator_calls.specs.Effects.{Effect, nothing, and_then}
 use Rattle.plain_row.specs.declared.plain_row.PlainRow.{PlainRow}
 use Rattle.local_allocators.specs.declared.local_seat.LocalSeat.{LocalSeat}
 use Rattle.plan_api.specs.Cursors.{RegionHasRoom}
-use Rattle.plain_row.specs.Rows.{address_at, number_at_turn, mutator_at_turn, seat_at_turn, mutator_number, births_of, regions_at_turn}
+use Rattle.plain_row.specs.Rows.{address_at, number_at_turn, mutator_at_turn, seat_at_turn, mutator_number, births_of}
+use Rattle.plain_row.specs.Rows.{regions_at_turn}
 use Rattle.local_allocators.specs.Seats.{ticket_of}
 use Rattle.local_allocators.proofs.KeptRegions.{keeps-more, tries-still}
 use Rattle.local_allocators.proofs.SeatRegions.{same-keeps}

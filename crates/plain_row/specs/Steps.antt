@@ -16,7 +16,9 @@ use Rattle.plain_row.specs.declared.plain_row.PlainRow.{PlainRow}
 use Rattle.block_regions.specs.declared.block_notes.BlockNote.TheVariants.{Owned}
 use Rattle.plain_row.specs.Rows.{mutator_at_turn, seat_at_turn, number_at_turn, births_of, address_at, regions_at_turn}
 use Rattle.local_allocators.specs.Seats.{ticket_of, block_of}
-use Rattle.local_allocators.specs.MutatorRegions.{FillsLines, cursors_of, GoesOver, IsBlockFor, TriesBlock, Overflows, KeepsHole, KeepsRegions, KeepsOthers, LacksBlock, LacksRegions, OffersRoom, MayLeaveClass}
+use Rattle.local_allocators.specs.MutatorRegions.{FillsLines, cursors_of, GoesOver, IsBlockFor, TriesBlock, Overflows}
+use Rattle.local_allocators.specs.MutatorRegions.{KeepsHole, KeepsRegions, KeepsOthers, LacksBlock, LacksRegions}
+use Rattle.local_allocators.specs.MutatorRegions.{OffersRoom, MayLeaveClass}
 
 -- the accounts of the mutator whose turn it is
 abbrev pub books_of : PlainRow → Books

@@ -1,5 +1,6 @@
 -- A world of mutators in turns, after steps of the mutator machine.
-use Rattle.std.specs.Prelude.{◌≡◌, ◌≢◌, ℕ, ◌+◌, ◌<◌, ◌≤◌, Bool, true, false, ◌&&◌, not, nat_eq, if◌then◌else◌, Some, List, [], ◌++◌, map, length, sum_by, slice_get, vec_capacity}
+use Rattle.std.specs.Prelude.{◌≡◌, ◌≢◌, ℕ, ◌+◌, ◌<◌, ◌≤◌, Bool, true, false, ◌&&◌, not, nat_eq, if◌then◌else◌, Some}
+use Rattle.std.specs.Prelude.{List, [], ◌++◌, map, length, sum_by, slice_get, vec_capacity}
 use Rattle.std.specs.List.{Contains, AllByRecursion, list_any}
 use Rattle.heap_layout.specs.declared.layout.TheConstants.{BUDGET_WORD, STOP_WORD}
 use Rattle.heap_layout.specs.declared.block.Kind.{Kind}
@@ -7,7 +8,8 @@ use Rattle.heap_layout.specs.declared.block.Kind.TheVariants as kinds
 use Rattle.ideal_heap.specs.Commands.{is_new}
 use Rattle.ideal_heap.specs.Ideal.{IdealHeap}
 use Rattle.ideal_heap.specs.Runs.{Entry, entry}
-use Rattle.object_model.specs.Objects.{HeapState, state_of, word_at, block_word, has_kind, HasKind, class_at, is_unlogged}
+use Rattle.object_model.specs.Objects.{HeapState, state_of, word_at, block_word, has_kind, HasKind, class_at}
+use Rattle.object_model.specs.Objects.{is_unlogged}
 use Rattle.object_model.specs.Graphs.{numbers_of}
 use Rattle.plan_api.specs.Counting.{session_counts}
 use Rattle.sessions.specs.Fitting.{counts_of}

@@ -1,5 +1,6 @@
 -- What the calls of a world promise.
-use Rattle.std.specs.Prelude.{◌≡◌, ◌≢◌, ℕ, ◌+◌, ◌<◌, ◌≤◌, Bool, true, false, ◌&&◌, not, Option, List, [], ◌∷◌, ◌++◌, map, length, slice_get, slice_index}
+use Rattle.std.specs.Prelude.{◌≡◌, ◌≢◌, ℕ, ◌+◌, ◌<◌, ◌≤◌, Bool, true, false, ◌&&◌, not, Option, List, [], ◌∷◌, ◌++◌}
+use Rattle.std.specs.Prelude.{map, length, slice_get, slice_index}
 use Rattle.std.specs.List.{Contains}
 use Rattle.heap_layout.specs.declared.layout.TheConstants.{BUDGET_WORD, STOP_WORD}
 use Rattle.heap_layout.specs.declared.block.Kind.{Kind}
@@ -11,7 +12,8 @@ use Rattle.ideal_heap.specs.declared.name.Name.{Name}
 use Rattle.ideal_heap.specs.declared.reply.Reply.{Reply}
 use Rattle.ideal_heap.specs.Ideal.{IdealHeap}
 use Rattle.ideal_heap.specs.Runs.{Entry, entry}
-use Rattle.object_model.specs.Objects.{HeapState, state_of, word_at, block_word, has_kind, HasKind, IsHeld, is_unlogged, size_of}
+use Rattle.object_model.specs.Objects.{HeapState, state_of, word_at, block_word, has_kind, HasKind, IsHeld, is_unlogged}
+use Rattle.object_model.specs.Objects.{size_of}
 use Rattle.object_model.specs.declared.shape.TheConstants.{HEADER_WORDS, MAX_MEDIUM_WORDS}
 use Rattle.object_model.specs.Graphs.{MutatorState}
 use Rattle.object_model.specs.Ages.{is_old}
@@ -25,7 +27,8 @@ use Rattle.block_regions.specs.declared.block_notes.BlockNote.{BlockNote}
 use Rattle.plain_row.specs.Rows.{mutator_number, births_of, registers_of, view_of}
 use Rattle.heap_users.specs.Users.{mutator_state}
 use Rattle.local_allocators.specs.Seats.{ticket_of}
-use Rattle.local_allocators.specs.MutatorRegions.{MutatorRegions, TriesBlock, Overflows, KeepsHole, KeepsRegions, LacksBlock, LacksRegions}
+use Rattle.local_allocators.specs.MutatorRegions.{MutatorRegions, TriesBlock, Overflows, KeepsHole, KeepsRegions}
+use Rattle.local_allocators.specs.MutatorRegions.{LacksBlock, LacksRegions}
 use Rattle.plain_row.specs.Worlds.{IsAfter, RowIsBetweenCalls, is_in_list, births_in, stop_after}
 use Rattle.local_allocators.specs.NotedRegions.{regions_of}
 use Rattle.local_allocators.specs.Placing.{LocalView, IsPlacedIn}

@@ -5,7 +5,8 @@ use Rattle.std.specs.Prelude.{◌≡◌, ◌≢◌, ℕ, ◌%◌, ◌<◌, ◌�
 use Rattle.heap_layout.specs.declared.block.Kind.TheVariants as kinds
 use Rattle.heap_layout.specs.Blocks.{kind_code}
 use Rattle.object_model.specs.declared.collect.Collect.{Collect}
-use Rattle.object_model.specs.Objects.{HeapState, has_kind, HasKind, block_word, owner_at, line_marked, is_start, is_pinned, is_unlogged, IsHeld}
+use Rattle.object_model.specs.Objects.{HeapState, has_kind, HasKind, block_word, owner_at, line_marked, is_start}
+use Rattle.object_model.specs.Objects.{is_pinned, is_unlogged, IsHeld}
 use Rattle.object_model.specs.Ages.{Lives}
 use Rattle.object_model.specs.Releasing.{InSpan}
 use Rattle.block_sweeps.specs.Sweeping.{IsOfSpan, IsMetadata, ChangesOnly, IsFreed, HasNoLiving, IsTouchedHere}

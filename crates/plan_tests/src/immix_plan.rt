@@ -59,8 +59,8 @@ fn moves(heap: &Heap, from: &[bool]) -> Option<bool> {
     Some(Immix::may_move(heap, from, 806))
 }
 
-/// Whether this is the allowance, and whether objects of 3, 2,048, 2,049 and 8,193 words fit as they
-/// should, which need a hole or a block, a block, and three blocks.
+/// Whether this is the allowance, and whether objects of 3, 2,048, 2,049 and 8,193 words fit as
+/// they should, which need a hole or a block, a block, and three blocks.
 fn asks(heap: &Heap, allowance: u32, fit: [bool; 4]) -> bool {
     let seen = [
         Immix::fits(heap, 3),

@@ -49,8 +49,8 @@ fn write_object(words: &mut Vec<u64>, layout: &Layout, offset: u32) {
     }
 }
 
-/// Whether this is the first hole of block 1 from an offset on, by words and by its view. `false` if
-/// there is no such block or size.
+/// Whether this is the first hole of block 1 from an offset on, by words and by its view. `false`
+/// if there is no such block or size.
 fn is_hole(
     words: &Vec<u64>,
     layout: &Layout,

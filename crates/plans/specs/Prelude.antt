@@ -12,5 +12,6 @@ pub use Rattle.plan_api.proofs.ReserveLaws.{copies-kept, headroom-kept, nothing-
 pub use Rattle.plan_api.specs.Evacuation.{HasFills}
 pub use Rattle.plan_api.specs.Releasing.{Releases, is_kept_after}
 pub use Rattle.plan_api.specs.Relisting.{Relists}
-pub use Rattle.sessions.specs.Plans.{Copies, Rules, GenCopy as gen_copy, Immix as immix, MarkSweep as mark_sweep, NoGc as no_gc, rules_of, SemiSpace as semi_space, StickyImmix as sticky_immix}
+pub use Rattle.sessions.specs.Plans.{Copies, Rules, GenCopy as gen_copy, Immix as immix, MarkSweep as mark_sweep}
+pub use Rattle.sessions.specs.Plans.{NoGc as no_gc, rules_of, SemiSpace as semi_space, StickyImmix as sticky_immix}
 pub use Rattle.heap_layout.specs.declared.block.Kind.TheVariants as kinds

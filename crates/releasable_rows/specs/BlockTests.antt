@@ -3,7 +3,8 @@ use Rattle.heap_layout.specs.declared.layout.TheConstants.{BLOCK_WORDS}
 use Rattle.std.specs.Prelude.{◌≡◌, ℕ, ◌+◌, ◌*◌, ◌%◌, ◌<◌, ◌≤◌, ◌||◌, IsTrue, false}
 use Rattle.heap_layout.specs.Zones.{block_start}
 use Rattle.heap_layout.specs.declared.block.Kind.TheVariants as kinds
-use Rattle.object_model.specs.Objects.{HeapState, HasKind, line_marked, is_start, is_pinned, is_unlogged, size_at, blocks_for}
+use Rattle.object_model.specs.Objects.{HeapState, HasKind, line_marked, is_start, is_pinned, is_unlogged, size_at}
+use Rattle.object_model.specs.Objects.{blocks_for}
 use Rattle.object_model.specs.Lawful.{HasObject}
 use Rattle.object_model.specs.declared.shape.TheConstants.{MAX_MEDIUM_WORDS}
 

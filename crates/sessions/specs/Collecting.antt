@@ -1,11 +1,14 @@
 -- Collections: which one is made, which blocks it evacuates, and the heap after it.
-use Rattle.std.specs.Prelude.{◌≡◌, ◌≢◌, ℕ, ◌+◌, ◌*◌, ◌-◌, ◌<◌, ◌≤◌, ◌⊎◌, ◌↔◌, Bool, true, false, ◌&&◌, ◌||◌, not, IsTrue, nat_eq, nat_lt, nat_le, if◌then◌else◌, List, count_by, sum_by, slice_index}
+use Rattle.std.specs.Prelude.{◌≡◌, ◌≢◌, ℕ, ◌+◌, ◌*◌, ◌-◌, ◌<◌, ◌≤◌, ◌⊎◌, ◌↔◌, Bool, true, false, ◌&&◌, ◌||◌, not}
+use Rattle.std.specs.Prelude.{IsTrue, nat_eq, nat_lt, nat_le, if◌then◌else◌, List, count_by, sum_by, slice_index}
 use Rattle.std.specs.List.{range_with_len, list_any}
 use Rattle.heap_layout.specs.Zones.{block_at, block_start}
 use Rattle.heap_layout.specs.declared.block.Kind.TheVariants as kinds
 use Rattle.object_model.specs.declared.collect.Collect.{Collect}
 use Rattle.object_model.specs.declared.collect.Collect.TheVariants.{Nursery, Full}
-use Rattle.object_model.specs.Objects.{HeapState, has_kind, HasKind, line_marked, is_start, is_unlogged, IsHeld, is_reference, IsInExtent, number_at, refs_at, ref_at, global_at, block_word, block_count}
+use Rattle.object_model.specs.Objects.{HeapState, has_kind, HasKind, line_marked, is_start, is_unlogged, IsHeld}
+use Rattle.object_model.specs.Objects.{is_reference, IsInExtent, number_at, refs_at, ref_at, global_at, block_word}
+use Rattle.object_model.specs.Objects.{block_count}
 use Rattle.object_model.specs.Graphs.{IsReachable}
 use Rattle.object_model.specs.Ages.{is_old, is_logged, RemembersYoung}
 use Rattle.object_model.specs.Preserving.{may_leave, PreservesObjects}

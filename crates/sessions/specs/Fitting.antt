@@ -1,12 +1,15 @@
 -- Where an object may be placed.
-use Rattle.std.specs.Prelude.{◌≡◌, ℕ, ◌+◌, ◌*◌, ◌-◌, ◌<◌, ◌≤◌, ◌⊎◌, ◌||◌, IsTrue, MatchBool, nat_le, Option, Some, find, unwrap_or}
+use Rattle.std.specs.Prelude.{◌≡◌, ℕ, ◌+◌, ◌*◌, ◌-◌, ◌<◌, ◌≤◌, ◌⊎◌, ◌||◌, IsTrue, MatchBool, nat_le, Option, Some, find}
+use Rattle.std.specs.Prelude.{unwrap_or}
 use Rattle.std.specs.List.{range_with_len}
 use Rattle.heap_layout.specs.Zones.{block_at, offset_at, block_start}
 use Rattle.heap_layout.specs.declared.block.Kind.{Kind}
 use Rattle.heap_layout.specs.declared.block.Kind.TheVariants as kinds
-use Rattle.object_model.specs.Objects.{HeapState, has_kind, HasKind, class_at, line_marked, is_start, IsHeld, size_at, cell_words, blocks_for, lines_for, block_count}
+use Rattle.object_model.specs.Objects.{HeapState, has_kind, HasKind, class_at, line_marked, is_start, IsHeld, size_at}
+use Rattle.object_model.specs.Objects.{cell_words, blocks_for, lines_for, block_count}
 use Rattle.sessions.specs.Plans.{Rules, Reserve}
-use Rattle.sessions.specs.Grants.{BlockCounts, total_in, used_in, headroom_in, allowance_in, IsGrantable, IsRunGrantable}
+use Rattle.sessions.specs.Grants.{BlockCounts, total_in, used_in, headroom_in, allowance_in, IsGrantable}
+use Rattle.sessions.specs.Grants.{IsRunGrantable}
 use Rattle.heap_layout.specs.declared.layout.TheConstants.{LINE_WORDS, BLOCK_LINES, BLOCK_WORDS}
 use Rattle.object_model.specs.declared.shape.TheConstants.{MAX_MEDIUM_WORDS}
 

@@ -1,7 +1,8 @@
 -- How many Free blocks a plan holds back, and so which may be granted: by the counts of a heap's
 -- blocks.
 use Rattle.std.specs.Prelude.{ℕ, ◌+◌, ◌-◌, ◌/◌, ◌<◌, ◌≤◌, List, [], ◌∷◌, map}
-use Rattle.sessions.specs.Plans.{Plan, NoGc, MarkSweep, SemiSpace, GenCopy, Immix, StickyImmix, Reserve, Nothing, Copies, Headroom, rules_of}
+use Rattle.sessions.specs.Plans.{Plan, NoGc, MarkSweep, SemiSpace, GenCopy, Immix, StickyImmix, Reserve, Nothing}
+use Rattle.sessions.specs.Plans.{Copies, Headroom, rules_of}
 
 -- how many blocks a heap has, how many of them are Free, and how many belong to large runs
 pub record BlockCounts : Type 0 where

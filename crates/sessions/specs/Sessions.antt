@@ -1,6 +1,7 @@
 -- Sessions: a run of the ideal heap in epochs, each with a stop at its end, and the heaps at the
 -- stops.
-use Rattle.std.specs.Prelude.{◌≡◌, ◌≢◌, ℕ, ◌+◌, ◌<◌, ◌≤◌, ◌⊎◌, ◌↔◌, Bool, true, false, IsTrue, Option, Some, None, List, [], ◌∷◌, ◌++◌, map, filter, length}
+use Rattle.std.specs.Prelude.{◌≡◌, ◌≢◌, ℕ, ◌+◌, ◌<◌, ◌≤◌, ◌⊎◌, ◌↔◌, Bool, true, false, IsTrue, Option, Some, None, List}
+use Rattle.std.specs.Prelude.{[], ◌∷◌, ◌++◌, map, filter, length}
 use Rattle.std.specs.List.{range_with_len, AllByRecursion, Any, list_all}
 use Rattle.heap_layout.specs.Zones.{BlockWords, first, block_at, offset_at, IsAddress}
 use Rattle.heap_layout.specs.Blocks.{code_of}
@@ -16,11 +17,13 @@ use Rattle.ideal_heap.specs.Ideal as ideal
 use Rattle.ideal_heap.specs.Runs.{Entry, is_full, IsRun, heap_after_run, IsOrderPrefix, IsOrder, next_of, IsMutator}
 use Rattle.object_model.specs.declared.collect.Collect.{Collect}
 use Rattle.object_model.specs.declared.collect.Collect.TheVariants.{Nursery, Full}
-use Rattle.object_model.specs.Objects.{HeapState, empty_heap, HasKind, block_word, is_pinned, is_unlogged, IsHeld, name_at, refs_at, nums_at, size_at, size_of, word_at, shape_code, blocks_for}
+use Rattle.object_model.specs.Objects.{HeapState, empty_heap, HasKind, block_word, is_pinned, is_unlogged, IsHeld}
+use Rattle.object_model.specs.Objects.{name_at, refs_at, nums_at, size_at, size_of, word_at, shape_code, blocks_for}
 use Rattle.object_model.specs.Graphs.{MutatorState, new_mutator, numbers_of, roots_of, Represents}
 use Rattle.object_model.specs.Lawful.{IsLawful}
 use Rattle.sessions.specs.Plans.{Rules}
-use Rattle.sessions.specs.Fitting.{Fits, HasHole, HasSomeHole, LiesInHole, HasCellFor, IsFreeRun, class_for, free_of, allowance_of}
+use Rattle.sessions.specs.Fitting.{Fits, HasHole, HasSomeHole, LiesInHole, HasCellFor, IsFreeRun, class_for, free_of}
+use Rattle.sessions.specs.Fitting.{allowance_of}
 use Rattle.sessions.specs.Collecting.{IsCollection, first_collection, Remembers, is_logged_under}
 use Rattle.object_model.specs.declared.shape.TheConstants.{MAX_MEDIUM_WORDS, COLLECTOR_OFFSET, SHAPE_OFFSET}
 

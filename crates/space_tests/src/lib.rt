@@ -1,6 +1,6 @@
 //! Tests of objects and the write barrier, of sweeps, of marks of lines, and of the spaces'
-//! searches, on rows that are written by hand. They stand in a crate of their own so that the crates
-//! which they test are proved once.
+//! searches, on rows that are written by hand. They stand in a crate of their own so that the
+//! crates which they test are proved once.
 #![tactic(auto)]
 
 #[cfg(test)]

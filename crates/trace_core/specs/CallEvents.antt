@@ -1,7 +1,9 @@
 -- Which events a tracer's call makes.
-use Rattle.std.specs.Prelude.{◌≡◌, ℕ, ◌+◌, Bool, IsTrue, nat_eq, List, [], ◌∷◌, Option, Some, None, replicate, if◌then◌else◌}
+use Rattle.std.specs.Prelude.{◌≡◌, ℕ, ◌+◌, Bool, IsTrue, nat_eq, List, [], ◌∷◌, Option, Some, None, replicate}
+use Rattle.std.specs.Prelude.{if◌then◌else◌}
 use Rattle.trace_core.specs.Setups.{Setup, size}
-use Rattle.trace_core.specs.Machine.{Event, ClaimCause, ByGlobal, ByField, Claim, Ask, Copy, Scan, SetGlobal, MarkLines, TakeBlock}
+use Rattle.trace_core.specs.Machine.{Event, ClaimCause, ByGlobal, ByField, Claim, Ask, Copy, Scan, SetGlobal, MarkLines}
+use Rattle.trace_core.specs.Machine.{TakeBlock}
 use Rattle.trace_core.specs.Views.{View, asked_roots, taken_view, left_view}
 
 -- the block that is taken, if one is

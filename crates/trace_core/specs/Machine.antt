@@ -1,7 +1,8 @@
 -- The tracing machine: what any number of workers do to the row, one step at a time, while
 -- mutators are stopped. A step changes one word at most, and what is known of objects, addresses,
 -- blocks, globals and roots.
-use Rattle.std.specs.Prelude.{◌≡◌, ℕ, ◌+◌, ◌-◌, Bool, true, false, ◌&&◌, not, IsTrue, if◌then◌else◌, nat_eq, nat_lt, nat_le, Option, Some, None, List, slice_index, slice_set, bit_or}
+use Rattle.std.specs.Prelude.{◌≡◌, ℕ, ◌+◌, ◌-◌, Bool, true, false, ◌&&◌, not, IsTrue, if◌then◌else◌, nat_eq, nat_lt}
+use Rattle.std.specs.Prelude.{nat_le, Option, Some, None, List, slice_index, slice_set, bit_or}
 use Rattle.heap_layout.specs.declared.block.TheConstants.{FIRST_WORKER_OWNER}
 use Rattle.object_model.specs.declared.shape.TheConstants.{COLLECTOR_OFFSET, HEADER_WORDS}
 use Rattle.forward_word.specs.CollectorWords.{collector_word}

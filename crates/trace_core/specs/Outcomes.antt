@@ -3,7 +3,8 @@ use Rattle.std.specs.Prelude.{◌≡◌, ℕ, ◌<◌, ◌≤◌, ◌⊎◌, ◌
 use Rattle.heap_layout.specs.declared.layout.TheConstants.{BUDGET_WORD, STOP_WORD}
 use Rattle.heap_layout.specs.Zones.{row_words}
 use Rattle.heap_layout.specs.declared.block.Kind.TheVariants as kinds
-use Rattle.object_model.specs.Objects.{HeapState, HasKind, IsHeld, IsInExtent, word_at, block_word, number_at, name_at, refs_at, nums_at, is_pinned, is_unlogged}
+use Rattle.object_model.specs.Objects.{HeapState, HasKind, IsHeld, IsInExtent, word_at, block_word, number_at, name_at}
+use Rattle.object_model.specs.Objects.{refs_at, nums_at, is_pinned, is_unlogged}
 use Rattle.object_model.specs.Lawful.{FreeBlockIsClear}
 use Rattle.object_model.specs.Ages.{Lives}
 use Rattle.trace_core.specs.Setups.{Setup, blocks, collection, stays_old, may_be_moved}

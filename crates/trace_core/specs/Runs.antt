@@ -1,5 +1,7 @@
 -- A collection as a tracer gets it, and the collection that it begins so.
-use Rattle.std.specs.Prelude.{◌≡◌, ℕ, ◌+◌, ◌*◌, ◌^◌, ◌<◌, Bool, true, false, ◌||◌, IsTrue, List, [], ◌++◌, take, drop, length, slice_get, slice_index, Option, Some, None, replicate, if◌then◌else◌, slice_set, ◌∷◌, nat_lt}
+use Rattle.std.specs.Prelude.{◌≡◌, ℕ, ◌+◌, ◌*◌, ◌^◌, ◌<◌, Bool, true, false, ◌||◌, IsTrue, List, [], ◌++◌, take, drop}
+use Rattle.std.specs.Prelude.{length, slice_get, slice_index, Option, Some, None, replicate, if◌then◌else◌, slice_set}
+use Rattle.std.specs.Prelude.{◌∷◌, nat_lt}
 use Rattle.forward_word.specs.declared.words.TheConstants.{NUMBER_BITS}
 use Rattle.heap_layout.specs.Zones.{LineWords, UnlogBits, first}
 use Rattle.heap_layout.specs.declared.layout.TheConstants.{BLOCK_BIT_WORDS, BLOCK_LINE_BIT_WORDS}

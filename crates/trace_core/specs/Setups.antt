@@ -3,7 +3,8 @@ use Rattle.std.specs.Prelude.{◌≡◌, ℕ, ◌+◌, ◌<◌, ◌≤◌, ◌^�
 use Rattle.forward_word.specs.declared.words.TheConstants.{NUMBER_BITS}
 use Rattle.heap_layout.specs.declared.block.Kind.{Kind}
 use Rattle.heap_layout.specs.declared.block.Kind.TheVariants as kinds
-use Rattle.object_model.specs.Objects.{HeapState, has_kind, is_start, is_unlogged, is_reference, ref_at, refs_at, size_at}
+use Rattle.object_model.specs.Objects.{HeapState, has_kind, is_start, is_unlogged, is_reference, ref_at, refs_at}
+use Rattle.object_model.specs.Objects.{size_at}
 use Rattle.object_model.specs.Ages as ages
 use Rattle.object_model.specs.Lawful.{IsLawfulButLines}
 use Rattle.object_model.specs.Preserving.{may_leave}

@@ -1,5 +1,6 @@
 -- When an event of the tracing machine may come, and the tracings that begin with a collection.
-use Rattle.std.specs.Prelude.{◌≡◌, ◌≢◌, ℕ, ◌+◌, ◌-◌, ◌*◌, ◌<◌, ◌≤◌, ◌⊎◌, Bool, false, IsTrue, nat_eq, Option, Some, None, List, [], ◌∷◌}
+use Rattle.std.specs.Prelude.{◌≡◌, ◌≢◌, ℕ, ◌+◌, ◌-◌, ◌*◌, ◌<◌, ◌≤◌, ◌⊎◌, Bool, false, IsTrue, nat_eq, Option, Some}
+use Rattle.std.specs.Prelude.{None, List, [], ◌∷◌}
 use Rattle.std.specs.Int.{bit_at}
 use Rattle.heap_layout.specs.Zones.{LineWords, first, InZone, block_at, offset_at, IsAddress}
 use Rattle.heap_layout.specs.declared.layout.TheConstants.{BLOCK_WORDS, GLOBALS}
@@ -8,7 +9,9 @@ use Rattle.object_model.specs.Objects.{HeapState, HasKind, global_at, ref_at, is
 use Rattle.object_model.specs.Lines.{TouchesLine}
 use Rattle.side_meta.specs.declared.word.TheConstants.{BITS_PER_WORD}
 use Rattle.trace_core.specs.Setups.{Setup, TraceMayBegin, blocks, held, size, refs, stays_old, may_be_moved}
-use Rattle.trace_core.specs.Machine.{Stage, Unclaimed, Copying, Scanning, target, Machine, ClaimCause, ByRoot, ByGlobal, ByField, Event, Claim, Ask, Copy, Scan, SetGlobal, MarkLines, TakeBlock, IsSettled, next, first_machine, heap_in}
+use Rattle.trace_core.specs.Machine.{Stage, Unclaimed, Copying, Scanning, target, Machine, ClaimCause, ByRoot, ByGlobal}
+use Rattle.trace_core.specs.Machine.{ByField, Event, Claim, Ask, Copy, Scan, SetGlobal, MarkLines, TakeBlock, IsSettled}
+use Rattle.trace_core.specs.Machine.{next, first_machine, heap_in}
 
 -- each block that was Free is taken
 abbrev pub NoneIsFree : Setup → (ℕ → ℕ) → Type 0

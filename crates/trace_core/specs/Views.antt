@@ -1,6 +1,7 @@
 -- What a tracer has done and may do. Each right is held once, by the tracer or by a token that it
 -- gave.
-use Rattle.std.specs.Prelude.{◌≡◌, ℕ, ◌+◌, ◌<◌, Bool, true, false, nat_eq, List, [], ◌∷◌, ◌++◌, take, Some, if◌then◌else◌, ◌&&◌, not, nat_lt, map, count_by}
+use Rattle.std.specs.Prelude.{◌≡◌, ℕ, ◌+◌, ◌<◌, Bool, true, false, nat_eq, List, [], ◌∷◌, ◌++◌, take, Some}
+use Rattle.std.specs.Prelude.{if◌then◌else◌, ◌&&◌, not, nat_lt, map, count_by}
 use Rattle.heap_layout.specs.declared.layout.TheConstants.{GLOBALS}
 use Rattle.object_model.specs.Times.{times, one_if}
 use Rattle.trace_core.specs.Setups.{Setup, size, refs, stays_old, keeps_its_words, was_logged}

@@ -4,7 +4,8 @@ use Rattle.std.specs.List.{range_with_len}
 use Rattle.heap_layout.specs.declared.block.Kind.TheVariants as kinds
 use Rattle.object_model.specs.WorkedHeaps.{WorkedHeap, plain_object, build_heap, unowned}
 use Rattle.trace_core.specs.Setups.{Setup}
-use Rattle.trace_core.specs.Machine.{Event, ByRoot, ByGlobal, ByField, Claim, Ask, Copy, Scan, SetGlobal, MarkLines, TakeBlock}
+use Rattle.trace_core.specs.Machine.{Event, ByRoot, ByGlobal, ByField, Claim, Ask, Copy, Scan, SetGlobal, MarkLines}
+use Rattle.trace_core.specs.Machine.{TakeBlock}
 
 -- Block 0 has two objects, at 806 and 810. Each has one field, which refers to the other, and the
 -- second has a number. Global 0 refers to the first. Blocks 1 to 3 are Free.

@@ -1,5 +1,6 @@
 -- The rule that each atomic step of a racing trace keeps.
-use Rattle.std.specs.Prelude.{◌≡◌, ℕ, Bool, false, nat_eq, count_by, length, ◌+◌, ◌*◌, ◌/◌, ◌%◌, ◌<◌, ◌≤◌, IsTrue, ◌⊎◌, ◌&&◌, not, nat_le, nat_lt, is_some, Option, List, []}
+use Rattle.std.specs.Prelude.{◌≡◌, ℕ, Bool, false, nat_eq, count_by, length, ◌+◌, ◌*◌, ◌/◌, ◌%◌, ◌<◌, ◌≤◌, IsTrue, ◌⊎◌}
+use Rattle.std.specs.Prelude.{◌&&◌, not, nat_le, nat_lt, is_some, Option, List, []}
 use Rattle.atomic_table.specs.Table.{State, Me}
 use mathlib.Core.Option.{some}
 use lib.ListN.{get_elem?}

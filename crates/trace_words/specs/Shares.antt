@@ -5,8 +5,10 @@ use Rattle.std.specs.List.{range_with_len}
 use Rattle.heap_layout.specs.Zones.{block_start}
 use Rattle.heap_layout.specs.declared.layout.TheConstants.{BLOCK_WORDS}
 use Rattle.trace_core.specs.Setups.{Setup, blocks, size}
-use Rattle.trace_core.specs.Machine.{ClaimCause, ByRoot, ByGlobal, ByField, Event, Claim, Ask, Copy, Scan, SetGlobal, MarkLines, TakeBlock}
-use Rattle.trace_core.specs.Views.{View, is_pair, without, claimed_view, scanned_view, set_view, asked_view, taken_view, first_view}
+use Rattle.trace_core.specs.Machine.{ClaimCause, ByRoot, ByGlobal, ByField, Event, Claim, Ask, Copy, Scan, SetGlobal}
+use Rattle.trace_core.specs.Machine.{MarkLines, TakeBlock}
+use Rattle.trace_core.specs.Views.{View, is_pair, without, claimed_view, scanned_view, set_view, asked_view, taken_view}
+use Rattle.trace_core.specs.Views.{first_view}
 use Rattle.trace_core.specs.declared.run.TraceRun.{TraceRun}
 use Rattle.trace_words.specs.declared.event.TraceCause.{TraceCause}
 use Rattle.trace_words.specs.declared.event.TraceCause.TheVariants as causes

@@ -1,5 +1,6 @@
 -- What a share needs for a step, and what the step shows.
-use Rattle.std.specs.Prelude.{◌≡◌, ◌≢◌, ℕ, ◌+◌, ◌-◌, ◌*◌, ◌<◌, ◌≤◌, ◌⊎◌, false, true, IsTrue, Bool, List, [], length, count_by, Some}
+use Rattle.std.specs.Prelude.{◌≡◌, ◌≢◌, ℕ, ◌+◌, ◌-◌, ◌*◌, ◌<◌, ◌≤◌, ◌⊎◌, false, true, IsTrue, Bool, List, [], length}
+use Rattle.std.specs.Prelude.{count_by, Some}
 use Rattle.std.specs.Int.{bit_at}
 use Rattle.forward_word.specs.CollectorWords.{number_in, target_in, is_old_word}
 use Rattle.heap_layout.specs.Zones.{InZone, LineWords, first, bit_of, block_start}
@@ -10,7 +11,8 @@ use Rattle.object_model.specs.Objects.{IsHeld, word_at, global_at, ref_at}
 use Rattle.object_model.specs.Times.{times, one_if}
 use Rattle.object_model.specs.declared.shape.TheConstants.{COLLECTOR_OFFSET, MAX_MEDIUM_WORDS}
 use Rattle.side_meta.specs.declared.word.TheConstants.{BITS_PER_WORD}
-use Rattle.trace_core.specs.Setups.{Setup, blocks, collection, held, size, refs, stays_old, keeps_its_words, may_be_moved}
+use Rattle.trace_core.specs.Setups.{Setup, blocks, collection, held, size, refs, stays_old, keeps_its_words}
+use Rattle.trace_core.specs.Setups.{may_be_moved}
 use Rattle.trace_core.specs.Machine.{Event, ClaimCause, ByRoot, ByGlobal, ByField}
 use Rattle.trace_core.specs.Traces.{IsTracing, IsFinished, machine_after, heap_after, target_of, is_scan_of}
 use Rattle.trace_core.specs.Outcomes.{base_after_trace}

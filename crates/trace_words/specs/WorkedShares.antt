@@ -8,7 +8,9 @@ use Rattle.trace_core.specs.Setups.{Setup}
 use Rattle.trace_core.specs.Machine.{ByRoot, ByField}
 use Rattle.trace_core.specs.WorkedTraces.{nursery_setup}
 use Rattle.trace_words.specs.declared.share.Share.{Share}
-use Rattle.trace_words.specs.Shares.{empty_share, worker_share, gives_parts, takes_after_full, claims_here, claims_moved, copies_on, ends_copy, gives_scan, scan_token, both_shares, scans_field, sets_global, asks_for, sets_lines, sees_busy}
+use Rattle.trace_words.specs.Shares.{empty_share, worker_share, gives_parts, takes_after_full, claims_here}
+use Rattle.trace_words.specs.Shares.{claims_moved, copies_on, ends_copy, gives_scan, scan_token, both_shares}
+use Rattle.trace_words.specs.Shares.{scans_field, sets_global, asks_for, sets_lines, sees_busy}
 
 -- the share as the tracing begins: the old object at 810 is logged, and is to be scanned
 abbrev pub begun : Share

@@ -65,9 +65,6 @@ module _ {S W T : Type 0} (awaits : S → W → List (Packet T) → Type 0) wher
   taken-await n ws first lt (inl h) = inl (h.0, h.1, one-taken n h.1 ws h.2 lt, h.3)
   taken-await n ws first lt (inr h) = inr h
 
--- some worker is busy, and not more than there are
+-- some worker is busy
 pub some-busy : (n m : ℕ) → 0 < n → 0 < min n (max 1 m)
 some-busy n m lt = omega arith
-
-pub busy-inside : (n m : ℕ) → min n (max 1 m) ≤ n
-busy-inside n m = omega arith

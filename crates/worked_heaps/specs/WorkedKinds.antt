@@ -1,5 +1,6 @@
 -- A worked heap with blocks of five kinds, of six blocks: the first address is 1200.
-use Rattle.std.specs.Prelude.{ℕ, Bool, true, false, ◌&&◌, ◌||◌, if◌then◌else◌, nat_eq, None, Some, List, [], ◌∷◌, ◌++◌, replicate, slice_set}
+use Rattle.std.specs.Prelude.{ℕ, Bool, true, false, ◌&&◌, ◌||◌, if◌then◌else◌, nat_eq, None, Some, List, [], ◌∷◌, ◌++◌}
+use Rattle.std.specs.Prelude.{replicate, slice_set}
 use Rattle.heap_layout.specs.declared.block.Kind.TheVariants as kinds
 use Rattle.heap_layout.specs.declared.block.BlockWord.{BlockWord}
 use Rattle.ideal_heap.specs.declared.name.Name.{Name}
