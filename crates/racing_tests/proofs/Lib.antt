@@ -1,1 +1,2 @@
+mod HeldObjects
 mod SameNumbers

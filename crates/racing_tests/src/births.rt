@@ -20,8 +20,8 @@ use std::process::Abort;
 use std::test::Fail;
 use std::thread::{Threads, for_each_mut};
 
-// The register of a mutator's new object.
-const NEW: u32 = 3;
+/// The register of a mutator's new object.
+pub(crate) const NEW: u32 = 3;
 
 /// The number of the shared object that counts objects.
 pub(crate) const MADE: u32 = 1;
@@ -61,8 +61,8 @@ fn make_one<P: Plan>(world: &World<P>, seat: &mut MutatorSeat, shape: &Shape) ->
     }
 }
 
-// Allocates objects, at most so many, until the mutator is to stop. Stores a number into each.
-fn fill<P: Plan>(world: &World<P>, seat: &mut MutatorSeat, shape: &Shape, most: u32)
+/// Allocates objects, at most so many, until the mutator is to stop. Stores a number into each.
+pub(crate) fn fill<P: Plan>(world: &World<P>, seat: &mut MutatorSeat, shape: &Shape, most: u32)
     requires call { MayCall P.rules world.now.row seat.old }
     requires refs { shape.now.refs ≤ 8 }
     requires size { shape.now.refs + shape.now.nums ≤ 2045 }
@@ -122,8 +122,8 @@ struct Room {
     free: u32,
 }
 
-// The number of objects that the mutators of the seats have allocated.
-fn births(seats: &Vec<MutatorSeat>) -> u64 {
+/// The number of objects that the mutators of the seats have allocated.
+pub(crate) fn births(seats: &Vec<MutatorSeat>) -> u64 {
     let mut sum: u64 = 0;
     for m in 0..seats.len() {
         sum = sum.wrapping_add(seats[m].births() as u64);

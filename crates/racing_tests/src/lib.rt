@@ -6,6 +6,8 @@ mod births;
 #[cfg(test)]
 mod games;
 #[cfg(test)]
+mod gates;
+#[cfg(test)]
 mod ideal;
 #[cfg(test)]
 mod orders;
