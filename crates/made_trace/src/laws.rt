@@ -3,7 +3,7 @@
 ghost use Rattle.std.specs.Prelude.{◌≡◌, ℕ, ◌++◌, ◌∷◌, [], map, take, drop};
 ghost use Rattle.std.specs.List.{range_with_len};
 ghost use Rattle.ideal_heap.specs.declared.command.Command.TheVariants as command;
-ghost use Rattle.made_trace.specs.Made.{command_at, in_row, made_trace};
+ghost use Rattle.stored_commands.specs.Made.{command_at, in_row, made_trace};
 
 /// How one begins, commands of each row, and later resets and collections.
 pub fn made_traces()

@@ -2,7 +2,6 @@
 #![tactic(auto)]
 
 mod counts;
-mod draws;
 mod laws;
 mod makers;
 

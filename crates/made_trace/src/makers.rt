@@ -2,12 +2,11 @@
 
 ghost use Rattle.std.specs.Prelude.{◌≡◌, All, IfOk, length};
 ghost use Rattle.ideal_heap.specs.Commands.{IsValid};
-ghost use Rattle.made_trace.specs.Made.{made_trace};
+ghost use Rattle.stored_commands.specs.Made.{made_trace};
 
-use crate::draws::Draws;
 use ideal_heap::Command;
 use std::alloc::{AllocError, Global};
-use stored_commands::{StoredTrace, commands_of};
+use stored_commands::StoredTrace;
 
 /// The made trace of `n` commands.
 ///
@@ -17,11 +16,17 @@ pub fn made(alloc: Global, n: u32) -> Result<Vec<Command>, AllocError>
     ensures count { IfOk result (λ v. length v.items ≡ n) }
     ensures valid { IfOk result (λ v. All IsValid v.items) }
 {
-    let trace = made_stored(alloc, n)?;
-    commands_of(alloc, &trace)
+    let mut trace = made_stored(alloc, n)?;
+    let mut commands = Vec::with_capacity(alloc, trace.len())?;
+    trace.prepare(0);
+    while let Some(command) = trace.get(commands.len()) {
+        commands.push(command.command())?;
+        trace.prepare(commands.len());
+    }
+    Ok(commands)
 }
 
-/// The made trace of `n` commands, as it is stored: 8 bytes a command.
+/// The made trace of `n` commands, as it is stored: its commands are drawn as they are prepared.
 ///
 /// Fails if memory runs out.
 pub fn made_stored(alloc: Global, n: u32) -> Result<StoredTrace, AllocError>
@@ -29,13 +34,6 @@ pub fn made_stored(alloc: Global, n: u32) -> Result<StoredTrace, AllocError>
     ensures count { IfOk result (λ t. length t ≡ n) }
     ensures valid { IfOk result (λ t. All IsValid t) }
 {
-    let mut draws = Draws {
-        state: u64::from(n),
-    };
-    let mut trace = StoredTrace::new(alloc);
-    trace.reserve_wide(n as usize)?;
-    for k in 0..n {
-        draws.push_command(k, &mut trace)?;
-    }
+    let trace = StoredTrace::made(alloc, n)?;
     Ok(trace)
 }

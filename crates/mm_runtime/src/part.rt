@@ -109,10 +109,12 @@ pub(crate) fn run_part<P: Plan, G: Gate>(
     ensures end { EndsFor (stop_word world.old) world.new place
         (next_in_trace progress.new) result }
 {
+    progress.prepare_next();
     while let Some(stored) = progress.trace.get(progress.replies.len()) {
         if let Some(end) = step(world, place, stored, &mut progress.replies, gate) {
             return end;
         }
+        progress.prepare_next();
     }
     PartEnd::Trace
 }

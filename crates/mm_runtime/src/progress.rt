@@ -35,6 +35,14 @@ pub enum PartEnd {
 }
 
 impl Progress {
+    /// Draws the next command, if it is a made one, before it is read.
+    #[inline(always)]
+    pub(crate) fn prepare_next(&mut self)
+        ensures { self.new ≡ self.old }
+    {
+        self.trace.prepare(self.replies.len());
+    }
+
     /// The next command as it is stored, `None` at the end of the trace.
     #[inline(always)]
     pub(crate) fn next_stored(&self) -> Option<StoredCommand<'_>>

@@ -138,10 +138,12 @@ fn run_seat<P: Plan, G: Gate>(
     ensures end { SeatEndsFor P.rules seat.new (next_in_trace progress.new) result }
     ensures raised { has_raised seat.new ≡ raises_stop result }
 {
+    progress.prepare_next();
     while let Some(stored) = progress.trace.get(progress.replies.len()) {
         if let Some(end) = step_at(world, seat, stored, &mut progress.replies, gate) {
             return end;
         }
+        progress.prepare_next();
     }
     PartEnd::Trace
 }

@@ -3,7 +3,7 @@
 //! `run_parts` calls `run_side_by_side`, `close_epoch` calls `run_in_turn`. The parts are those of
 //! one epoch, or some of them next to each other.
 
-ghost use Rattle.std.specs.Prelude.{◌≡◌, ◌<◌, ◌≤◌, ℕ, All, length};
+ghost use Rattle.std.specs.Prelude.{◌≡◌, ◌<◌, ◌≤◌, ℕ, All, length, IfSome};
 ghost use Rattle.std.specs.Thread.{IsSync};
 ghost use Rattle.mm_runtime.specs.Prelude.{IsPartOf, RunsAll};
 
@@ -23,25 +23,60 @@ pub(crate) fn run_in_turn<P: Plan, G: Gate>(world: &World<P>, gate: &G, parts: &
     }
 }
 
-/// The place of the last part that has commands left, if one before it has some too, else 0.
-fn last_of_two(parts: &[Part]) -> usize
-    ensures { 0 < result → result < length parts.now }
+/// The place of the last part that has commands left.
+fn last_with_commands(parts: &[Part]) -> Option<usize>
+    ensures { IfSome result (λ k. k < length parts.now) }
 {
-    let mut last = 0usize;
-    let mut one = false;
+    let mut last = None;
     for (k, part) in parts.iter().enumerate() {
         if part.progress.replies.len() < part.progress.trace.len() {
-            if one {
-                last = k;
-            }
-            one = true;
+            last = Some(k);
         }
     }
     last
 }
 
-/// Runs each of these parts to its end. Those with commands left run at the same time, each in a
-/// thread where one can be started.
+/// Whether two of the parts have commands left.
+fn two_have_commands(parts: &[Part]) -> bool {
+    match last_with_commands(parts) {
+        Some(last) => last_with_commands(&parts[..last]).is_some(),
+        None => false,
+    }
+}
+
+/// Runs each of these parts to its end. Each with commands left runs in a thread of its own where
+/// one can be started. The caller runs the others and waits: a thread that the system puts on the
+/// caller's processor runs at once, and not after a part that the caller runs.
+fn run_in_threads<P: Plan + Sync, G: Gate, R: Threads + Sync>(
+    rt: &R,
+    world: &World<P>,
+    gate: &G,
+    parts: &mut [Part],
+)
+    requires parts { All (IsPartOf P.rules world.now) parts.old }
+    ensures { RunsAll P.rules world.now parts.old parts.new }
+{
+    let Some(last) = last_with_commands(parts) else {
+        run_in_turn(world, gate, parts);
+        return;
+    };
+    let (front, back) = parts.split_at_mut(last);
+    join_mut(
+        rt,
+        &mut ||
+            requires { IsSync P.row × IsSync G.row × All (IsPartOf P.rules world.now) back.now }
+            ensures { RunsAll P.rules world.entry.now back.entry.now back.exit.now }
+        { run_in_turn(world, gate, back) },
+        &mut ||
+            requires { IsSync R.row × IsSync P.row × IsSync G.row
+                × All (IsPartOf P.rules world.now) front.now }
+            ensures { RunsAll P.rules world.entry.now front.entry.now front.exit.now }
+        { run_in_threads(rt, world, gate, front) },
+    );
+}
+
+/// Runs each of these parts to its end. Where two or more have commands left, they run at the same
+/// time, each in a thread where one can be started.
 pub(crate) fn run_side_by_side<P: Plan + Sync, G: Gate, R: Threads + Sync>(
     rt: &R,
     world: &World<P>,
@@ -51,22 +86,9 @@ pub(crate) fn run_side_by_side<P: Plan + Sync, G: Gate, R: Threads + Sync>(
     requires parts { All (IsPartOf P.rules world.now) parts.old }
     ensures { RunsAll P.rules world.now parts.old parts.new }
 {
-    let last = last_of_two(parts);
-    if last == 0 {
+    if two_have_commands(parts) {
+        run_in_threads(rt, world, gate, parts);
+    } else {
         run_in_turn(world, gate, parts);
-        return;
     }
-    let (front, back) = parts.split_at_mut(last);
-    join_mut(
-        rt,
-        &mut ||
-            requires { IsSync R.row × IsSync P.row × IsSync G.row
-                × All (IsPartOf P.rules world.now) front.now }
-            ensures { RunsAll P.rules world.entry.now front.entry.now front.exit.now }
-        { run_side_by_side(rt, world, gate, front) },
-        &mut ||
-            requires { IsSync P.row × IsSync G.row × All (IsPartOf P.rules world.now) back.now }
-            ensures { RunsAll P.rules world.entry.now back.entry.now back.exit.now }
-        { run_in_turn(world, gate, back) },
-    );
 }

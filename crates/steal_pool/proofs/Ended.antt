@@ -1,5 +1,5 @@
 -- What all workers did, once their tickets are back and their deques are empty.
-use Rattle.std.proofs.Common.{◌≡◌, List, [], ◌++◌, All, map, length, sym, ◌∙◌, subst, ap}
+use Rattle.std.proofs.Common.{◌≡◌, List, [], ◌++◌, All, map, sym, ◌∙◌, subst}
 use Rattle.std.specs.List.{AllZip, flat_map}
 use Rattle.std.specs.List.Sorted.{IsPermutation}
 use Rattle.work_packets.specs.declared.packet.Bucket.{Bucket}
@@ -13,7 +13,7 @@ use Rattle.steal_pool.specs.Ends.{puts, takings}
 use Rattle.steal_pool.specs.Seats.{account, desk_of, got_by, HasBegun, GoesOnTo}
 use Rattle.steal_pool.specs.Served.{RunsPart}
 use Rattle.steal_pool.proofs.Places.{same-parts, same-flat-parts}
-use Rattle.steal_pool.proofs.Totals.{AreServed, all-served, served-part}
+use Rattle.steal_pool.proofs.Totals.{all-served, served-part}
 
 module _ {W T H : Type 0} (home : W → H) (takes : H → Packet T → Type 0) (steps : W → Packet T → List (Packet T) → W → Type 0) (b : Bucket) where
   pub record HaveEnded (before : List W) (first : List (Packet T)) (after : List W) (rest later : List (Packet T)) : Type 0 where

@@ -8,12 +8,12 @@ use Rattle.std.specs.declared.alloc.Global.{Global}
 use Rattle.atomic_blocks.specs.Lent.{RowsId}
 use Rattle.work_packets.specs.declared.packet.Bucket.{Bucket}
 use Rattle.work_packets.specs.declared.packet.Packet.{Packet}
-use Rattle.work_packets.specs.Awaiting.{AwaitsAll, MayAwait}
+use Rattle.work_packets.specs.Awaiting.{MayAwait}
 use Rattle.work_packets.specs.Packets.{HasItems}
 use Rattle.steal_pool.specs.declared.seats.Seat.{Seat}
-use Rattle.steal_pool.specs.Ends.{takings, stolen, IsOwner}
+use Rattle.steal_pool.specs.Ends.{takings, stolen}
 use Rattle.work_packets.specs.declared.share.Share.{Share}
-use Rattle.steal_pool.specs.Seats.{Account, account, desk_of, deques, got_by, HasBegun, HasParts, HasTickets, GoesOnTo, IsServable}
+use Rattle.steal_pool.specs.Seats.{account, desk_of, deques, got_by, HasBegun, HasParts, HasTickets, GoesOnTo, IsServable}
 use Rattle.steal_pool.specs.Served.{IsFitting, AwaitsAny}
 use Rattle.steal_pool.proofs.Rounds.{still-owner}
 

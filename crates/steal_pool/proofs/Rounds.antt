@@ -1,8 +1,7 @@
 -- A worker goes on from seat to seat.
-use Rattle.std.proofs.Common.{◌≡◌, ℕ, ◌+◌, ◌<◌, List, [], ◌∷◌, ◌++◌, refl, sym, ap, ◌∙◌, subst}
+use Rattle.std.proofs.Common.{◌≡◌, ◌+◌, ◌<◌, List, [], ◌∷◌, ◌++◌, refl, sym, ap, ◌∙◌, subst}
 use Rattle.std.specs.List.{flat_map}
 use Rattle.std.specs.List.Sorted.{IsPermutation}
-use Rattle.std.proofs.lemmas.List.Sorted.{IsPermutation-refl, IsPermutation-trans}
 use Rattle.work_packets.specs.declared.packet.Bucket.{Bucket}
 use Rattle.work_packets.specs.declared.packet.Packet.{Packet}
 use Rattle.work_packets.proofs.Pieces.{piece, join, rearranged}
@@ -14,7 +13,7 @@ use Rattle.steal_pool.specs.Ends.{IsOwner, Keeps, puts, takings, stolen}
 use Rattle.std.specs.declared.alloc.Global.{Global}
 use Rattle.atomic_blocks.specs.Lent.{RowsId}
 use Rattle.steal_pool.specs.Seats.{Account, desk_of, got_by, GoesOnTo}
-use Rattle.steal_pool.specs.Served.{IsServed, IsFitting}
+use Rattle.steal_pool.specs.Served.{IsServed}
 use Rattle.steal_pool.proofs.Services.{GoesOn, served-got, served-shuffled}
 
 module _ {W T K H : Type 0} (home : W → H) (takes : H → Packet T → Type 0) (steps : W → Packet T → List (Packet T) → W → Type 0) (b : Bucket) where

@@ -7,14 +7,14 @@ use Rattle.std.specs.List.Sorted.{IsPermutation}
 use Rattle.std.proofs.lemmas.List.Sorted.{All-permutation, IsPermutation-refl, IsPermutation-trans, IsPermutation-append_right, IsPermutation-append_left, IsPermutation-sym, IsPermutation-append, length_permutation}
 use Rattle.work_packets.specs.declared.packet.Bucket.{Bucket}
 use Rattle.work_packets.specs.declared.packet.Packet.{Packet}
-use Rattle.work_packets.specs.Buckets.{is_same, IsSameOrLater}
+use Rattle.work_packets.specs.Buckets.{IsSameOrLater}
 use Rattle.work_packets.specs.Packets.{HasItems, packets_of, packets_after}
 use Rattle.work_packets.specs.Steps.{Step, Reaches, ran, pushed}
-use Rattle.work_packets.proofs.Pieces.{nothing, piece, join, rearranged}
+use Rattle.work_packets.proofs.Pieces.{piece, join, rearranged}
 use Rattle.steal_pool.proofs.Moves.{all-right}
 use Rattle.work_packets.proofs.Logs.{in-bucket}
 use Rattle.std.proofs.lemmas.List.Sums.{length-filter, count_by-le-length}
-use Rattle.steal_pool.specs.Served.{Service, Serves, IsServed, IsFitting}
+use Rattle.steal_pool.specs.Served.{IsServed, IsFitting}
 
 module _ {W T : Type 0} where
   reaches-more : (steps : W → Packet T → List (Packet T) → W → Type 0) (w : W) (log : List (Step W T)) (u : W) (s : Step W T) → Reaches steps w log u → steps u s.packet s.pushed s.worker → Reaches steps w (log ++ s ∷ []) s.worker

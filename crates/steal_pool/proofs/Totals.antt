@@ -1,5 +1,5 @@
 -- What all workers did together, and how the plain split goes on from there.
-use Rattle.std.proofs.Common.{◌≡◌, List, [], ◌∷◌, ◌++◌, All, map, length, refl, sym, ap, ◌∙◌, subst, append_assoc}
+use Rattle.std.proofs.Common.{◌≡◌, List, [], ◌∷◌, ◌++◌, All, map, length, refl, sym, ap, ◌∙◌, subst}
 use Rattle.std.specs.List.{AllZip, flat_map}
 use Rattle.std.specs.List.Sorted.{IsPermutation}
 use Rattle.std.proofs.lemmas.List.{append-nil}
@@ -15,11 +15,11 @@ use Rattle.work_packets.specs.Packets.{HasItems, packets_of, packets_after}
 use Rattle.work_packets.specs.Shares.{packets_in}
 use Rattle.work_packets.specs.Steps.{Step, BucketWork, Reaches, AllReach, ran, ran_by_all, pushed, pushed_by_all, RunsBucket}
 use Rattle.work_packets.proofs.Logs.{AllReach-lengths}
-use Rattle.work_packets.proofs.Pieces.{nothing, piece, join, rearranged}
+use Rattle.work_packets.proofs.Pieces.{piece, join, rearranged}
 use Rattle.steal_pool.specs.declared.seats.Seat.{Seat}
 use Rattle.steal_pool.specs.Ends.{puts}
-use Rattle.steal_pool.specs.Seats.{Account, account, desk_of, got_by, HasBegun, GoesOnTo}
-use Rattle.steal_pool.specs.Served.{Serves, IsServed, RunsPart}
+use Rattle.steal_pool.specs.Seats.{account, desk_of, got_by, HasBegun, GoesOnTo}
+use Rattle.steal_pool.specs.Served.{IsServed, RunsPart}
 
 module _ {W T H : Type 0} (home : W → H) (takes : H → Packet T → Type 0) (steps : W → Packet T → List (Packet T) → W → Type 0) (b : Bucket) where
   pub record AreServed (before : List W) (first : List (Packet T)) (logs : List (List (Step W T))) (refused : List (Packet T)) (after : List W) (put got later : List (Packet T)) : Type 0 where

@@ -21,9 +21,8 @@ use crate::serve::serve;
 use std::alloc::AllocError;
 use std::marker::Brand;
 use std::sync::atomic::AtomicU64;
-use std::thread;
 use std::thread::Threads;
-use work_packets::{Bucket, Gate, Packet, PacketWorker, deal, run_plain_split};
+use work_packets::{Bucket, Gate, Packet, PacketWorker, deal, map_in_threads, run_plain_split};
 
 /// The most workers that steal from one another.
 pub const MAX_WORKERS: usize = 16;
@@ -199,7 +198,7 @@ fn steal_among<
     let opened = open_seats::<T, W, K>(b, shares)?;
     let (mut seats, thieves) = opened;
     cut_tickets(&mut seats)?;
-    let results = thread::map_vec(
+    let results = map_in_threads(
         rt,
         seats,
         &|seat: Seat<T, W, K>| -> Result<Seat<T, W, K>, AllocError>

@@ -1,4 +1,6 @@
 mod Beside
 mod Shorts
 mod Parts
-mod Copies
+pub mod Copies
+mod Drawing
+pub mod Stretches

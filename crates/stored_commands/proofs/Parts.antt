@@ -20,9 +20,5 @@ nothing : {A : Type 0} (xs : List A) → length xs ≡ 0 → xs ≡ []
 nothing [] none = refl
 nothing (x ∷ xs) none = cc
 
--- an element is added to the first part while the second is empty
-pub added_first : {A : Type 0} (xs ys : List A) (x : A) → length ys ≡ 0 → (xs ++ x ∷ []) ++ ys ≡ (xs ++ ys) ++ x ∷ []
-added_first xs ys x none = let empty : ys ≡ [] = nothing ys none in rw empty (append-nil (xs ++ x ∷ []) ∙ ap (λ l. l ++ x ∷ []) (sym (append-nil xs)))
-
 pub added_second : {A : Type 0} (xs ys : List A) (x : A) → xs ++ (ys ++ x ∷ []) ≡ xs ++ ys ++ x ∷ []
 added_second xs ys x = sym (append_assoc xs ys (x ∷ []))

@@ -1,12 +1,14 @@
 -- The command that a form stands for.
-use Rattle.std.specs.Prelude.{◌≡◌, ℕ, ◌+◌, ◌*◌, ◌<◌, ◌/◌, ◌%◌, Bool, true, false, List, [], Option, None, Some, IfSome, get_or, if◌then◌else◌}
+use Rattle.std.specs.Prelude.{◌≡◌, ℕ, ◌+◌, ◌*◌, ◌<◌, ◌/◌, ◌%◌, Bool, true, false, List, [], Option, None, Some, IfSome}
+use Rattle.std.specs.Prelude.{get_or, if◌then◌else◌}
 use Rattle.ideal_heap.specs.declared.command.Command.{Command}
 use Rattle.ideal_heap.specs.declared.command.Command.TheVariants as commands
 use Rattle.stored_commands.specs.declared.form.Form.{Form}
 use Rattle.stored_commands.specs.declared.form.Short.{Short as ShortForm}
 use Rattle.stored_commands.specs.declared.form.Op.{Op}
 use Rattle.stored_commands.specs.declared.form.TheConstants.{VALUE_UNIT, THIRD_UNIT, NUMBER_END, DIGIT_UNIT}
-use Rattle.stored_commands.specs.declared.form.Op.TheVariants.{New, Get, Put, Read, Write, Add, Swap, Move, DropReg, Load, Share, Pin, Unpin, Gc, Meet, Other}
+use Rattle.stored_commands.specs.declared.form.Op.TheVariants.{New, Get, Put, Read, Write, Add, Swap, Move, DropReg}
+use Rattle.stored_commands.specs.declared.form.Op.TheVariants.{Load, Share, Pin, Unpin, Gc, Meet, Other}
 use Rattle.stored_commands.specs.declared.packed_command.Packed.{Packed}
 use Rattle.stored_commands.specs.declared.packed_command.Packed.TheVariants.{Short, Long}
 

@@ -1,2 +1,4 @@
 pub mod Forms
+pub mod Made
+pub mod Stretches
 pub mod Lists

@@ -2,9 +2,9 @@
 
 ghost use Rattle.std.specs.Prelude.{◌≡◌, ◌<◌, ◌/◌, ◌%◌, ◌^◌, ◌++◌, ◌∷◌, [], None, length, get_or, OnOk};
 ghost use Rattle.ideal_heap.specs.declared.command.Command.TheVariants.{Gc};
-ghost use Rattle.stored_commands.specs.Forms.{command_beside, command_in, index_beside, index_in};
+ghost use Rattle.stored_commands.specs.Forms.{command_beside, index_beside};
 
-use crate::form::{DIGIT_UNIT, Form, NUMBER_END, Op, Short, THIRD_END, THIRD_UNIT};
+use crate::form::{DIGIT_UNIT, NUMBER_END, Op, Short, THIRD_END, THIRD_UNIT};
 use crate::wide_commands::WideCommands;
 use ideal_heap::Command;
 use std::alloc::{AllocError, Global};
@@ -84,27 +84,22 @@ impl ShortCommands {
         self.shorts.reserve(count)
     }
 
-    /// Adds the command that a form stands for.
-    #[cold]
-    #[inline(never)]
-    pub(crate) fn push_form(&mut self, form: Form) -> Result<(), AllocError>
-        requires { index_in form ≡ None }
-        ensures { OnOk result (self.new ≡ self.old ++ command_in [] form ∷ []) }
+    /// Whether no index is left for a command that does not fit into 4 bytes.
+    pub(crate) fn is_full(&self) -> bool {
+        self.wide.len() / DIGIT_UNIT as usize >= THIRD_END as usize
+    }
+
+    /// Forgets all commands.
+    pub(crate) fn clear(&mut self)
+        ensures { self.new ≡ [] }
     {
-        let index = self.wide.len();
-        if index / DIGIT_UNIT as usize >= THIRD_END as usize {
-            return Err(AllocError);
-        }
-        self.wide.push_form(form)?;
-        self.shorts.push(short_of_index(index))?;
-        Ok(())
+        self.shorts.clear();
+        self.wide.clear();
     }
 
     /// Adds a command that is not in 4 bytes.
     ///
-    /// Fails if memory runs out, or if 2 ^ 24 commands are not short.
-    #[cold]
-    #[inline(never)]
+    /// Fails if memory runs out, or if no index is left.
     pub(crate) fn push_long(&mut self, command: Command) -> Result<(), AllocError>
         ensures { OnOk result (self.new ≡ self.old ++ command ∷ []) }
     {

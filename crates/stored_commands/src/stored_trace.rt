@@ -1,24 +1,23 @@
 //! The type of a trace that is kept.
 
-ghost use Rattle.std.specs.Prelude.{◌≡◌, ◌++◌, ◌∷◌, [], None, Some, length, slice_get, get_or, MatchOption, OnOk};
+ghost use Rattle.std.specs.Prelude.{◌≡◌, ◌++◌, ◌∷◌, [], None, Some, length, slice_get, get_or, IfOk, MatchOption, OnOk};
 ghost use Rattle.ideal_heap.specs.declared.command.Command.TheVariants.{Gc};
-ghost use Rattle.stored_commands.specs.Forms.{command_of};
+ghost use Rattle.stored_commands.specs.Made.{made_trace};
 
-use crate::form::{Form, Op};
+use crate::early_commands::EarlyCommands;
 use crate::packed_command::{Packed, PackedCommand};
 use crate::short_commands::ShortCommands;
 use crate::stored_command::StoredCommand;
-use crate::wide_commands::WideCommands;
 use ideal_heap::Command;
 use std::alloc::{AllocError, Global};
 use std::marker::Model;
 
-/// A list of commands. A short command takes 4 bytes, one with more bits 12, and any other 44.
-/// Those that came in 8 bytes before the first short one take 8. Clauses see it as the list.
+/// A list of commands. A short command takes 4 bytes, one with more bits 12, and any other 44. Those
+/// of a made trace take none. Clauses see it as the list.
 #[derive(Debug, Drop)]
 pub struct StoredTrace {
     // The first commands.
-    wide: WideCommands,
+    early: EarlyCommands,
     // The others.
     short: ShortCommands,
 }
@@ -29,7 +28,17 @@ impl Model for StoredTrace {
 
     ghost Value = { List Command };
 
-    ghost view = { λ t. t.wide ++ t.short };
+    ghost view = { λ t. t.early ++ t.short };
+}
+
+// Adds all of these commands.
+fn add_all(to: &mut EarlyCommands, commands: &ShortCommands) -> Result<(), AllocError>
+    ensures { OnOk result (to.new ≡ to.old ++ commands.now) }
+{
+    for k in 0..commands.len() {
+        to.push(commands.command(k))?;
+    }
+    Ok(())
 }
 
 impl StoredTrace {
@@ -38,9 +47,22 @@ impl StoredTrace {
         ensures { result ≡ [] }
     {
         StoredTrace {
-            wide: WideCommands::new(alloc),
+            early: EarlyCommands::none(alloc),
             short: ShortCommands::new(alloc),
         }
+    }
+
+    /// The made trace of `count` commands, which are drawn as they are prepared.
+    ///
+    /// Fails if memory runs out.
+    pub fn made(alloc: Global, count: u32) -> Result<StoredTrace, AllocError>
+        ensures { IfOk result (λ t. t ≡ made_trace count) }
+    {
+        let early = EarlyCommands::made(alloc, count)?;
+        Ok(StoredTrace {
+            early,
+            short: ShortCommands::new(alloc),
+        })
     }
 
     /// The number of commands.
@@ -48,7 +70,7 @@ impl StoredTrace {
     pub fn len(&self) -> usize
         ensures { result ≡ length self.now }
     {
-        self.wide.len() + self.short.len()
+        self.early.len() + self.short.len()
     }
 
     /// Takes the memory for so many short commands, unless some was taken before.
@@ -60,34 +82,31 @@ impl StoredTrace {
         self.short.reserve(count)
     }
 
-    /// Takes the memory for so many commands in 8 bytes.
-    ///
-    /// Fails if memory runs out.
-    pub fn reserve_wide(&mut self, count: usize) -> Result<(), AllocError>
-        ensures { self.new ≡ self.old }
+    // Makes room for one more command that does not fit into 4 bytes.
+    fn make_room(&mut self) -> Result<(), AllocError>
+        ensures { OnOk result (self.new ≡ self.old) }
     {
-        self.wide.reserve(count)
+        if self.short.is_full() {
+            add_all(&mut self.early, &self.short)?;
+            self.short.clear();
+        }
+        Ok(())
     }
 
-    /// Adds the command that does this with these numbers, in 8 bytes while no command is short.
-    ///
-    /// Fails as `push`.
-    #[tactic(auto, using(crate::proofs::Parts::added_first, crate::proofs::Parts::added_second))]
-    #[inline(always)]
-    pub fn push_wide(&mut self, op: Op, a: u8, b: u16, c: u32) -> Result<(), AllocError>
-        requires { op ≡ Op.Other → ⊥ }
-        ensures { OnOk result (self.new ≡ self.old ++ command_of op a b c ∷ []) }
+    // Adds a command that is not in 4 bytes.
+    #[tactic(auto, using(crate::proofs::Parts::added_second))]
+    #[cold]
+    #[inline(never)]
+    fn push_long(&mut self, command: Command) -> Result<(), AllocError>
+        ensures { OnOk result (self.new ≡ self.old ++ command ∷ []) }
     {
-        let form = Form { op, a, b, c };
-        if self.short.len() > 0 {
-            return self.short.push_form(form);
-        }
-        self.wide.push_form(form)
+        self.make_room()?;
+        self.short.push_long(command)
     }
 
     /// Adds a command.
     ///
-    /// Fails if memory runs out, or if 2 ^ 24 commands after the first short one are not short.
+    /// Fails if memory runs out, or if the numbers of 2 ^ 32 commands are not narrow.
     #[tactic(auto, using(crate::proofs::Parts::added_second))]
     #[inline(always)]
     pub fn push(&mut self, command: PackedCommand) -> Result<(), AllocError>
@@ -95,8 +114,17 @@ impl StoredTrace {
     {
         match command.packed {
             Packed::Short(short) => self.short.push_short(short),
-            Packed::Long(command) => self.short.push_long(command),
+            Packed::Long(command) => self.push_long(command),
         }
+    }
+
+    /// Draws a made command with this index and some after it, if a stretch begins with it: so each
+    /// command in turn is drawn once. Any other takes no time.
+    #[inline(always)]
+    pub fn prepare(&mut self, k: usize)
+        ensures { self.new ≡ self.old }
+    {
+        self.early.prepare(k);
     }
 
     /// The command with this index, from 0 on, `gc` if there are fewer.
@@ -105,14 +133,15 @@ impl StoredTrace {
     pub(crate) fn command(&self, k: usize) -> Command
         ensures { result ≡ get_or self.now k Gc }
     {
-        let first = self.wide.len();
+        let first = self.early.len();
         if k < first {
-            return self.wide.command(k);
+            return self.early.command(k);
         }
         self.short.command(k - first)
     }
 
-    /// The command with this index, from 0 on, `None` if there are fewer.
+    /// The command with this index, from 0 on, `None` if there are fewer. A made one takes as long
+    /// as all before it, unless it was prepared.
     #[tactic(auto, using(crate::proofs::Parts::is_within, crate::proofs::Parts::is_past))]
     #[inline(always)]
     pub fn get(&self, k: usize) -> Option<StoredCommand<'_>>

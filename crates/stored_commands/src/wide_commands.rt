@@ -4,7 +4,7 @@ ghost use Rattle.std.specs.Prelude.{◌≡◌, ◌<◌, ◌≤◌, ◌^◌, ◌+
 ghost use Rattle.ideal_heap.specs.declared.command.Command.TheVariants.{Gc};
 ghost use Rattle.stored_commands.specs.Forms.{command_in, index_in};
 
-use crate::form::{Form, Op, VALUE_UNIT};
+use crate::form::{Form, Op};
 use crate::packed_command::form_of;
 use ideal_heap::Command;
 use std::alloc::{AllocError, Global};
@@ -72,13 +72,12 @@ impl WideCommands {
         Ok(())
     }
 
-    /// Takes the memory for so many commands with narrow numbers.
-    ///
-    /// Fails if memory runs out.
-    pub(crate) fn reserve(&mut self, count: usize) -> Result<(), AllocError>
-        ensures { self.new ≡ self.old }
+    /// Forgets all commands.
+    pub(crate) fn clear(&mut self)
+        ensures { self.new ≡ [] }
     {
-        self.forms.reserve(count)
+        self.forms.clear();
+        self.others.clear();
     }
 
     /// Adds the command that a form stands for.
@@ -110,46 +109,12 @@ impl WideCommands {
     pub(crate) fn command(&self, k: usize) -> Command
         ensures { result ≡ get_or self.now k Gc }
     {
-        let Some(Form { op, a, b, c }) = self.forms.get(k) else {
+        let Some(form) = self.forms.get(k) else {
             return Command::Gc;
         };
-        let a = u32::from(*a);
-        let b = u32::from(*b);
-        let c = *c;
-        match *op {
-            Op::New => Command::New {
-                d: a,
-                refs: b,
-                nums: c,
-            },
-            Op::Get => Command::Get { d: a, s: b, i: c },
-            Op::Put => Command::Put { s: a, i: b, v: c },
-            Op::Read => Command::Read { s: a, j: b },
-            Op::Write => Command::Write {
-                s: a,
-                j: b,
-                n: u64::from(c),
-            },
-            Op::Add => Command::Add {
-                s: a,
-                j: b,
-                n: u64::from(c),
-            },
-            Op::Swap => Command::Swap {
-                s: a,
-                j: b,
-                was: u64::from(c % VALUE_UNIT),
-                next: u64::from(c / VALUE_UNIT),
-            },
-            Op::Move => Command::Move { d: a, s: b },
-            Op::DropReg => Command::DropReg { s: a },
-            Op::Load => Command::Load { d: a, g: b },
-            Op::Share => Command::Share { g: a, s: b },
-            Op::Pin => Command::Pin { s: a },
-            Op::Unpin => Command::Unpin { s: a },
-            Op::Gc => Command::Gc,
-            Op::Meet => Command::Meet,
-            Op::Other => self.others[c as usize],
+        if let Op::Other = form.op {
+            return self.others[form.c as usize];
         }
+        form.command()
     }
 }

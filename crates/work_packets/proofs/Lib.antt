@@ -7,3 +7,4 @@ pub mod Ends
 pub mod Reached
 pub mod Balances
 mod Idle
+mod Jobs

@@ -8,6 +8,7 @@ mod meet_gate;
 mod packet;
 mod plain_split;
 mod share;
+mod threads;
 mod worker;
 
 pub use gate::{Gate, OpenGate, Point};
@@ -19,4 +20,5 @@ pub use meet_gate::{MAX_TURNS, MeetGate};
 pub use packet::{Bucket, MAX_ITEMS, Packet};
 pub use plain_split::{run_alone, run_plain_split};
 pub use share::{Share, deal};
+pub use threads::map_in_threads;
 pub use worker::PacketWorker;

@@ -16,9 +16,9 @@ ghost use Rattle.work_packets.specs.declared.plain_split.Finished.{Finished};
 use crate::gate::{Gate, Point};
 use crate::packet::{Bucket, Packet};
 use crate::share::{Share, deal};
+use crate::threads::map_in_threads;
 use crate::worker::PacketWorker;
 use std::alloc::AllocError;
-use std::thread;
 use std::thread::Threads;
 
 /// A worker that has run its share, and the packets that it pushed for later buckets.
@@ -109,8 +109,9 @@ fn busy_count(workers: usize, packets: usize) -> usize
 
 /// Runs a bucket from its first packets on, and hands back the workers and the packets for later
 /// buckets. The first packets are dealt evenly, and each worker runs its own and all that it pushes
-/// for this bucket. The caller does the work of one worker, and that of those for which no thread
-/// can be started. A worker that gets no packet has no thread.
+/// for this bucket. Several workers run in threads of their own while the caller waits; it does the
+/// work of one alone, and of those for which no thread can be started. A worker that gets no packet
+/// has no thread.
 pub fn run_plain_split<T: Send + Drop, W: PacketWorker<T>, G: Gate, R: Threads + Sync>(
     rt: &R,
     b: Bucket,
@@ -146,7 +147,7 @@ pub fn run_plain_split<T: Send + Drop, W: PacketWorker<T>, G: Gate, R: Threads +
     let mut active = workers;
     let mut idle = active.split_off(busy)?;
     let shares = deal(active, first)?;
-    let results = thread::map_vec(
+    let results = map_in_threads(
         rt,
         shares,
         &|share: Share<T, W>| -> Result<Finished<T, W>, AllocError>

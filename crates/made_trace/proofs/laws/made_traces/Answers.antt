@@ -1,5 +1,5 @@
 use Rattle.std.proofs.Common.{refl}
-use Rattle.made_trace.specs.Made.{made_trace}
+use Rattle.stored_commands.specs.Made.{made_trace}
 use Rattle.made_trace.proofs.laws.made_traces.Goals as goal
 
 pub returns-clause-first : goal.returns-clause-first

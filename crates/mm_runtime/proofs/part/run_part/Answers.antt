@@ -11,7 +11,7 @@ use Rattle.mm_runtime.proofs.Replying as replying
 use Rattle.mm_runtime.proofs.part.run_part.Goals as goal
 
 pub loop-stored-init : goal.loop-stored-init
-loop-stored-init g c = record {
+loop-stored-init g c = rw c.prepare_next.ensures (record {
   is_open = c.requires.open;
   place = c.requires.place;
   few = c.requires.few;
@@ -19,7 +19,7 @@ loop-stored-init g c = record {
   in_order = c.requires.progress;
   births = c.requires.births;
   stop = refl;
-}
+})
 
 pub step-requires-clause-valid : goal.step-requires-clause-valid
 step-requires-clause-valid g c κs within =
@@ -40,7 +40,7 @@ loop-stored-smaller g c =
     let gets = c.in_default-step.ensures in
     let count : length c.step.new.replies.items ≡ length c.loop-stored.progress.replies.items + 1 =
     ap length gets.items ∙ length-append c.loop-stored.progress.replies.items (gets.reply ∷ []) in
-    omega arith
+    rw c.prepare_next-in-Some.ensures (omega arith)
 
 pub loop-stored-preserved : goal.loop-stored-preserved
 loop-stored-preserved g c =
@@ -53,7 +53,8 @@ loop-stored-preserved g c =
     let count : length c.step.new.replies.items ≡ length c.loop-stored.progress.replies.items + 1 =
     ap length gets.items ∙ length-append c.loop-stored.progress.replies.items (gets.reply ∷ []) in
     let births : births_at c.step.new.world c.args.place ≤ births_at c.loop-stored.world c.args.place + 1 =
-    births-most c.loop-stored.world c.step.new.world c.args.place c.in-Some.stored gets.reply answers in record {
+    births-most c.loop-stored.world c.step.new.world c.args.place c.in-Some.stored gets.reply answers in
+    rw c.prepare_next-in-Some.ensures (record {
       is_open = answers.is_open;
       place = subst (λ (n : ℕ). c.args.place < n) (sym answers.places.count) now.place;
       few = subst (λ (n : ℕ). n ≤ MAX_MUTATORS) (sym answers.places.count) now.few;
@@ -62,7 +63,7 @@ loop-stored-preserved g c =
       in_order = replying.order-more old new c.in-Some.stored gets.reply now.in_order is refl gets.items gets.capacity;
       births = let few = now.births in omega arith;
       stop = gets.stop ∙ now.stop;
-    }
+    })
 
 pub returns-in-Some-step-clause-runs : goal.returns-in-Some-step-clause-runs
 returns-in-Some-step-clause-runs g c =

@@ -11,13 +11,13 @@ use Rattle.mm_runtime.proofs.SeatBirths.{few-more, few-same}
 use Rattle.mm_runtime.proofs.seat_part.run_seat.Goals as goal
 
 pub loop-stored-init : goal.loop-stored-init
-loop-stored-init g c = record {
+loop-stored-init g c = rw c.prepare_next.ensures (record {
   call = c.requires.call;
   runs = seats.runs-none g.P.Plan.rules c.args.world.now c.args.seat.now c.args.progress.now c.requires.call;
   in_order = c.requires.progress;
   births = c.requires.births;
   calm = c.requires.calm;
-}
+})
 
 pub step_at-requires-clause-valid : goal.step_at-requires-clause-valid
 step_at-requires-clause-valid g c κs within =
@@ -45,7 +45,7 @@ loop-stored-smaller g c =
     let gets = seats.gets-of g.P.Plan.rules c.args.world.now c.loop-stored.seat c.step_at.new.seat c.in-Some.stored c.loop-stored.progress.replies c.step_at.new.replies c.in_default-step_at.ensures in
     let count : length c.step_at.new.replies.items ≡ length c.loop-stored.progress.replies.items + 1 =
     ap length gets.items ∙ length-append c.loop-stored.progress.replies.items (gets.reply ∷ []) in
-    omega arith
+    rw c.prepare_next-in-Some.ensures (omega arith)
 
 pub loop-stored-preserved : goal.loop-stored-preserved
 loop-stored-preserved g c =
@@ -53,14 +53,15 @@ loop-stored-preserved g c =
     let new : Progress = record { trace = c.loop-stored.progress.trace; replies = c.step_at.new.replies } in
     let is : next_in_trace old ≡ Some c.in-Some.stored = replying.next-read old c.len.result _ c.len.ensures c.in-Some.ensures in
     let now = c.loop-stored.invariant in
-    let gets = seats.gets-of g.P.Plan.rules c.args.world.now c.loop-stored.seat c.step_at.new.seat c.in-Some.stored old.replies new.replies c.in_default-step_at.ensures in record {
+    let gets = seats.gets-of g.P.Plan.rules c.args.world.now c.loop-stored.seat c.step_at.new.seat c.in-Some.stored old.replies new.replies c.in_default-step_at.ensures in
+    rw c.prepare_next-in-Some.ensures (record {
       call = gets.answers.call;
       runs = seats.runs-more g.P.Plan.rules c.args.world.now c.args.seat.now c.loop-stored.seat c.step_at.new.seat c.args.progress.now old new c.in-Some.stored
           now.runs c.in_default-step_at.ensures is refl;
       in_order = replying.order-more old new c.in-Some.stored gets.reply now.in_order is refl gets.items gets.capacity;
       births = few-more g.P.Plan.rules c.args.world.now c.loop-stored.seat c.step_at.new.seat c.in-Some.stored gets.reply old.replies.items c.step_at.new.replies.items gets.answers gets.items now.births;
       calm = gets.raised ∙ now.calm;
-    }
+    })
 
 pub returns-in-Some-step_at-clause-runs : goal.returns-in-Some-step_at-clause-runs
 returns-in-Some-step_at-clause-runs g c =

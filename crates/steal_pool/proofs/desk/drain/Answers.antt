@@ -1,4 +1,4 @@
-use Rattle.std.proofs.Common.{◌≡◌, ◌<◌, refl, sym, ◌∙◌, subst, [], ◌++◌}
+use Rattle.std.proofs.Common.{◌<◌, refl, sym, ◌∙◌, subst, [], ◌++◌}
 use Rattle.std.proofs.lemmas.List.{append-nil}
 use Rattle.steal_pool.specs.Ends.{puts, takings}
 use Rattle.steal_pool.specs.Served.{IsFitting}

@@ -1,4 +1,4 @@
-use Rattle.std.proofs.Common.{◌≡◌, ℕ, ◌+◌, ◌-◌, [], List, ◌++◌, All, length}
+use Rattle.std.proofs.Common.{◌≡◌, ◌+◌, ◌-◌, [], List, ◌++◌, All, length}
 use Rattle.work_packets.specs.declared.packet.Packet.{Packet}
 use Rattle.steal_pool.specs.Ends.{IsOwner, Keeps, puts, takings}
 use Rattle.steal_pool.proofs.Services.{GoesOn}

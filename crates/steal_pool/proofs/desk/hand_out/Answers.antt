@@ -1,9 +1,8 @@
-use Rattle.std.proofs.Common.{◌≡◌, ◌<◌, true, false, List, [], ◌∷◌, ◌++◌, sym, ap, ◌∙◌, subst, Some}
+use Rattle.std.proofs.Common.{◌≡◌, ◌<◌, true, false, [], ◌∷◌, ◌++◌, sym, ap, ◌∙◌, subst, Some}
 use Rattle.std.proofs.lemmas.List.Elements.{All-cons, All-nil, All-pop}
 use denote.Enum.Bare.{same_true, same_false}
 use Rattle.work_packets.specs.contracts.packet.Bucket.{the_type}
 use Rattle.work_packets.specs.Buckets.{is_before, is_same, IsSameOrLater}
-use Rattle.work_packets.specs.declared.packet.Packet.{Packet}
 use Rattle.work_packets.proofs.BucketOrder.{same-itself, never-before-itself, not-same, then-later}
 use Rattle.work_packets.proofs.Logs.{moves-over, stays-out}
 use Rattle.steal_pool.specs.declared.rule.Hand.{Hand}

@@ -1,4 +1,3 @@
-use Rattle.std.proofs.Common.{refl}
 use Rattle.steal_pool.proofs.Moves.{own_pops, own_finds}
 use Rattle.steal_pool.proofs.desk.next.Goals as goal
 

@@ -1,6 +1,4 @@
-use Rattle.std.proofs.Common.{◌≡◌, ◌≤◌, List, [], ◌∷◌, ◌++◌, All, subst, length}
-use Rattle.std.specs.List.Sorted.{IsPermutation}
-use Rattle.work_packets.specs.declared.packet.Packet.{Packet}
+use Rattle.std.proofs.Common.{[], ◌∷◌, ◌++◌, All, subst}
 use Rattle.work_packets.specs.Buckets.{IsSameOrLater}
 use Rattle.work_packets.specs.Packets.{packets_of}
 use Rattle.steal_pool.specs.Ends.{puts}

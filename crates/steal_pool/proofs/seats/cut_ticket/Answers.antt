@@ -1,12 +1,12 @@
-use Rattle.std.proofs.Common.{◌≡◌, ℕ, ◌+◌, ◌-◌, ◌<◌, List, [], ◌∷◌, ◌++◌, refl, sym, ap, ◌∙◌, subst, arith}
+use Rattle.std.proofs.Common.{◌≡◌, ◌+◌, ◌-◌, [], ◌++◌, sym, ap, ◌∙◌, subst, arith}
 use Rattle.std.specs.List.{flat_map}
 use Rattle.crossbeam_deque.specs.Handles.{worker_port, worker_view, worker_deque}
-use Rattle.crossbeam_deque.specs.Tasks.{Forks, Merges}
+use Rattle.crossbeam_deque.specs.Tasks.{Forks}
 use Rattle.steal_pool.specs.declared.desk.Desk.{Desk}
 use Rattle.steal_pool.specs.declared.rule.Hand.{Hand}
 use Rattle.steal_pool.specs.Rule.{hand, IsBalanced}
 use Rattle.steal_pool.specs.Ends.{IsOwner, stolen, puts, takings}
-use Rattle.steal_pool.specs.Seats.{Account, desk_of}
+use Rattle.steal_pool.specs.Seats.{desk_of}
 use Rattle.steal_pool.proofs.Moves.{own_forks}
 use Rattle.steal_pool.proofs.Rounds.{accounted, same-account}
 use Rattle.steal_pool.proofs.seats.cut_ticket.Goals as goal

@@ -1,7 +1,6 @@
 use Rattle.std.proofs.Common.{◌≡◌, ◌-◌, [], All, length, map}
-use Rattle.std.specs.List.{flat_map}
 use Rattle.steal_pool.specs.declared.rule.TheConstants.{PARTS}
-use Rattle.steal_pool.specs.Ends.{AreTickets, takings, stolen}
+use Rattle.steal_pool.specs.Ends.{AreTickets}
 use Rattle.steal_pool.specs.Seats.{account, deques, got_by, HasParts}
 use Rattle.steal_pool.proofs.Places.{AreUpTo}
 use Rattle.steal_pool.proofs.seats.cut_tickets.Given as goal

@@ -1,12 +1,12 @@
-use Rattle.std.proofs.Common.{◌≡◌, ◌<◌, List, [], ◌++◌, All, refl, sym, ap, ◌∙◌, subst, arith}
+use Rattle.std.proofs.Common.{◌≡◌, [], All, refl, sym, ap, ◌∙◌, subst, arith}
 use Rattle.std.proofs.lemmas.List.Elements.{All-filter, All-nil}
 use Rattle.work_packets.specs.Packets.{packets_of}
 use Rattle.steal_pool.proofs.Services.{refused-fit}
-use Rattle.crossbeam_deque.specs.Handles.{worker_deque, worker_view, stealer_deque}
+use Rattle.crossbeam_deque.specs.Handles.{worker_view}
 use Rattle.steal_pool.specs.declared.desk.Desk.{Desk}
 use Rattle.steal_pool.specs.declared.rule.Hand.{Hand}
 use Rattle.steal_pool.specs.declared.rule.TheConstants.{PARTS}
-use Rattle.steal_pool.specs.Ends.{IsOwner, puts, takings}
+use Rattle.steal_pool.specs.Ends.{IsOwner, puts}
 use Rattle.steal_pool.specs.Served.{IsServed}
 use Rattle.steal_pool.proofs.Moves.{begins}
 use Rattle.steal_pool.proofs.Opening.{in-order, begun}

@@ -1,20 +1,17 @@
-use Rattle.std.proofs.Common.{rules, ◌≡◌, ◌<◌, ◌≤◌, ◌+◌, ◌-◌, ℕ, List, [], ◌∷◌, ◌++◌, All, map, length, set, get_or, refl, sym, ap, ◌∙◌, subst, arith}
+use Rattle.std.proofs.Common.{rules, ◌≡◌, ◌<◌, ◌≤◌, ◌+◌, ◌-◌, [], ◌++◌, All, map, length, set, get_or, refl, sym, ap, ◌∙◌, subst, arith}
 use Rattle.std.specs.List.{flat_map}
 use Rattle.std.specs.List.Sorted.{IsPermutation}
 use Rattle.std.proofs.Math.Seq.{map-set_same}
-use Rattle.std.proofs.lemmas.List.{append-nil, length-append, length-map, get_or-map, nil_from_length, map-set}
+use Rattle.std.proofs.lemmas.List.{append-nil, length-map, get_or-map, map-set}
 use Rattle.std.proofs.lemmas.List.Elements.{All-set, All-get_or}
 use Rattle.std.proofs.lemmas.List.Sorted.{IsPermutation-refl, IsPermutation-trans}
-use Rattle.std.proofs.lemmas.Grind.{flat_map-append}
-use Rattle.crossbeam_deque.specs.Handles.{worker_deque, worker_view}
-use Rattle.work_packets.specs.declared.packet.Packet.{Packet}
+use Rattle.crossbeam_deque.specs.Handles.{worker_deque}
 use Rattle.steal_pool.specs.declared.rule.TheConstants.{PARTS}
 use Rattle.steal_pool.specs.declared.seats.Seat.{Seat}
-use Rattle.steal_pool.specs.Ends.{AreTickets, IsTicketFor, IsOwner, stolen, takings}
-use Rattle.steal_pool.specs.Seats.{account, desk_of, deques, got_by, HasParts, HasTickets}
-use Rattle.steal_pool.proofs.Places.{AreUpTo, none-yet, next-place, place-done, all-done, all-to-do, place-to-do, place-left, none-to-do, same-count, same-parts, flat-set}
-use Rattle.steal_pool.proofs.Joined.{all-parts, of-map, own-takings}
-use Rattle.steal_pool.proofs.Tickets.{ticket-more, ticket-last}
+use Rattle.steal_pool.specs.Ends.{AreTickets, stolen, takings}
+use Rattle.steal_pool.specs.Seats.{account, desk_of, deques, got_by, HasParts}
+use Rattle.steal_pool.proofs.Places.{AreUpTo, none-yet, next-place, place-done, all-done, same-count, same-parts, flat-set}
+use Rattle.steal_pool.proofs.Joined.{of-map, own-takings}
 use Rattle.std.proofs.lemmas.List.Elements.{All-map}
 use Rattle.steal_pool.proofs.seats.take_tickets_back.Goals as goal
 

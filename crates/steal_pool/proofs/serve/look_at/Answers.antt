@@ -1,16 +1,14 @@
-use Rattle.std.proofs.Common.{rules, ◌≡◌, ◌<◌, List, [], ◌∷◌, ◌++◌, All, map, length, set, get_or, refl, sym, ap, ◌∙◌, subst, append_assoc, arith}
+use Rattle.std.proofs.Common.{◌≡◌, ◌<◌, List, [], ◌∷◌, ◌++◌, All, map, length, set, get_or, refl, sym, ap, ◌∙◌, subst, append_assoc, arith}
 use Rattle.std.specs.List.{flat_map}
 use Rattle.std.specs.List.Sorted.{IsPermutation}
 use Rattle.std.proofs.lemmas.List.{append-nil, length-map, get_or-map, length-set}
 use Rattle.std.proofs.lemmas.List.Elements.{All-cons, All-nil}
-use Rattle.std.proofs.lemmas.List.Sorted.{IsPermutation-refl, IsPermutation-trans, IsPermutation-append_right}
+use Rattle.std.proofs.lemmas.List.Sorted.{IsPermutation-refl, IsPermutation-append_right}
 use Rattle.crossbeam_deque.specs.Handles.{stealer_deque}
 use Rattle.work_packets.specs.declared.packet.Packet.{Packet}
-use Rattle.work_packets.proofs.Pieces.{piece, join, rearranged}
 use Rattle.steal_pool.specs.declared.desk.Desk.{Desk}
-use Rattle.steal_pool.specs.declared.seats.Seat.{Seat}
 use Rattle.steal_pool.specs.Ends.{IsOwner, IsTicketFor, AreTickets, stolen, takings}
-use Rattle.steal_pool.specs.Seats.{desk_of, got_by, HasTickets}
+use Rattle.steal_pool.specs.Seats.{desk_of, got_by}
 use Rattle.steal_pool.specs.Served.{IsFitting}
 use Rattle.steal_pool.proofs.Places.{flat-set, flat-set-same}
 use Rattle.steal_pool.proofs.Tickets.{ticket-at, ticket-set}

@@ -1,5 +1,5 @@
-use Rattle.std.proofs.Common.{◌≡◌, sym, ap, subst}
-use Rattle.steal_pool.specs.Seats.{desk_of, HasTickets}
+use Rattle.std.proofs.Common.{sym, subst}
+use Rattle.steal_pool.specs.Seats.{desk_of}
 use Rattle.steal_pool.specs.Served.{IsFitting}
 use Rattle.steal_pool.proofs.Rounds.{stays-there, then-goes, still-owner}
 use Rattle.steal_pool.proofs.serve.look_round.Goals as goal

@@ -1,6 +1,6 @@
-use Rattle.std.proofs.Common.{◌≡◌, [], map}
+use Rattle.std.proofs.Common.{map}
 use Rattle.crossbeam_deque.specs.Handles.{stealer_deque}
-use Rattle.steal_pool.specs.Seats.{desk_of, HasTickets, GoesOnTo}
+use Rattle.steal_pool.specs.Seats.{HasTickets, GoesOnTo}
 use Rattle.steal_pool.proofs.serve.look_round.Given as goal
 
 abbrev pub invariant-loop-i : goal.invariant-loop-i

@@ -1,7 +1,7 @@
-use Rattle.std.proofs.Common.{◌≡◌, map, length, sym, ap, subst}
+use Rattle.std.proofs.Common.{◌≡◌, map, length, sym, subst}
 use Rattle.crossbeam_deque.specs.Handles.{stealer_deque}
 use Rattle.steal_pool.specs.Ends.{AreTickets}
-use Rattle.steal_pool.specs.Seats.{desk_of, HasTickets}
+use Rattle.steal_pool.specs.Seats.{desk_of}
 use Rattle.steal_pool.specs.Served.{IsFitting}
 use Rattle.steal_pool.proofs.Rounds.{then-goes, still-owner}
 use Rattle.steal_pool.proofs.serve.serve.Goals as goal

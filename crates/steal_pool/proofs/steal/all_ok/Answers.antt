@@ -1,4 +1,4 @@
-use Rattle.std.proofs.Common.{rules, ◌≡◌, ◌∙◌, [], ◌∷◌, ◌++◌, map, Ok, ap, sym}
+use Rattle.std.proofs.Common.{◌∙◌, [], ◌∷◌, ◌++◌, map, Ok, ap, sym}
 use Rattle.std.proofs.lemmas.List.{map-append}
 use Rattle.steal_pool.proofs.steal.all_ok.Goals as goal
 

@@ -1,4 +1,4 @@
-use Rattle.std.proofs.Common.{rules, ◌≡◌, List, All, length, sym, ap, ◌∙◌, subst, inr}
+use Rattle.std.proofs.Common.{All, sym, subst, inr}
 use Rattle.std.proofs.lemmas.List.Elements.{All-append}
 use Rattle.work_packets.specs.Packets.{HasItems}
 use Rattle.work_packets.specs.Steps.{RunsBucket}

@@ -1,5 +1,4 @@
-use Rattle.std.proofs.Common.{rules, ◌≡◌, ◌<◌, ◌≤◌, ◌∙◌, List, [], ◌∷◌, All, ap, sym, subst, length, arith}
-use Rattle.work_packets.specs.Packets.{HasItems}
+use Rattle.std.proofs.Common.{rules, ◌≡◌, ◌≤◌, ◌∙◌, sym, subst, length, arith}
 use Rattle.steal_pool.proofs.Joined.{of-home, several-await}
 use Rattle.steal_pool.proofs.steal.run_steal.Goals as goal
 

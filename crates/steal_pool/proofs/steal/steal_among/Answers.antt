@@ -1,12 +1,10 @@
-use Rattle.std.proofs.Common.{rules, ◌≡◌, ◌≤◌, ◌<◌, ◌-◌, List, [], All, IfOk, map, length, refl, sym, ap, ◌∙◌, subst, arith}
-use Rattle.std.specs.List.{AllZip, flat_map}
-use Rattle.std.specs.List.Sorted.{IsPermutation}
+use Rattle.std.proofs.Common.{rules, ◌≡◌, ◌≤◌, ◌<◌, ◌-◌, List, All, IfOk, map, length, refl, sym, ap, ◌∙◌, subst, arith}
+use Rattle.std.specs.List.{AllZip}
 use Rattle.std.proofs.lemmas.List.{length-map}
 use Rattle.std.proofs.lemmas.List.Elements.{All-get_or, All-weaker}
 use Rattle.std.proofs.lemmas.List.Sorted.{All-permutation}
 use Rattle.work_packets.specs.declared.share.Share.{Share}
 use Rattle.work_packets.specs.Packets.{HasItems}
-use Rattle.work_packets.specs.Shares.{packets_in}
 use Rattle.work_packets.proofs.Ends.{zipped}
 use Rattle.crossbeam_deque.specs.Handles.{stealer_deque}
 use Rattle.steal_pool.specs.declared.rule.TheConstants.{PARTS}
@@ -26,8 +24,8 @@ open_seats-requires-clause-fit g c κs within =
     All-permutation g.K.Fits.fits _ _ c.in_ok-shares.ensures.packets
     (all-fit g.K.Fits.fits c.args.b g.W.PacketWorker.takes c.requires.takes.0 c.requires.takes.3 c.args.first.items c.requires.bucket c.requires.items c.requires.takes.2)
 
-pub map_vec-requires-after_bounds : goal.map_vec-requires-after_bounds
-map_vec-requires-after_bounds g c κs within =
+pub map_in_threads-requires-after_bounds : goal.map_in_threads-requires-after_bounds
+map_in_threads-requires-after_bounds g c κs within =
     let home = g.W.PacketWorker.home in let takes = g.W.PacketWorker.takes in let steps = g.W.PacketWorker.steps in let awaits = g.W.PacketWorker.awaits in let b = c.args.b in let fits = g.K.Fits.fits in let h = c.requires.takes.0 in
     let shares : List (Share g.row.T.Denot g.row.W.Denot) = c.in_ok-shares.shares.items in let opened : List (Seat g.row.T.Denot g.row.W.Denot g.row.K.Denot) = c.in_ok-opened.opened.0.items in let ds = map (λ t. stealer_deque t) c.in_ok-opened.opened.1.items in
     let o = c.in_ok-opened.ensures in let k = c.in_ok-cut_tickets.ensures in let seats : List (Seat g.row.T.Denot g.row.W.Denot g.row.K.Denot) = c.cut_tickets.new.seats.items in

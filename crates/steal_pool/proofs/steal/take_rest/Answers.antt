@@ -1,10 +1,8 @@
-use Rattle.std.proofs.Common.{◌≡◌, ◌<◌, List, [], ◌∷◌, ◌++◌, All, refl, sym, ap, ◌∙◌, subst, append_assoc}
-use Rattle.std.specs.List.Sorted.{IsPermutation}
+use Rattle.std.proofs.Common.{◌<◌, [], ◌∷◌, ◌++◌, All, refl, sym, ap, ◌∙◌, subst, append_assoc}
 use Rattle.std.proofs.lemmas.List.{append-nil}
 use Rattle.std.proofs.lemmas.List.Elements.{All-append}
-use Rattle.work_packets.specs.declared.packet.Packet.{Packet}
 use Rattle.steal_pool.specs.declared.rule.Hand.{Hand}
-use Rattle.steal_pool.specs.Ends.{puts, takings}
+use Rattle.steal_pool.specs.Ends.{takings}
 use Rattle.steal_pool.proofs.Moves.{own_pops, own_finds}
 use Rattle.steal_pool.proofs.steal.take_rest.Goals as goal
 

@@ -13,8 +13,8 @@ use Rattle.work_packets.proofs.AwaitedPackets.{dealt-awaited, each-awaits, one-a
 use Rattle.work_packets.proofs.Idle.{worked, idle_logs, with-idle, one-taken, none-dropped, taken-await, some-busy}
 use Rattle.work_packets.proofs.plain_split.run_plain_split.Goals as goal
 
-pub map_vec-requires-after_bounds : goal.map_vec-requires-after_bounds
-map_vec-requires-after_bounds g c κs within =
+pub map_in_threads-requires-after_bounds : goal.map_in_threads-requires-after_bounds
+map_in_threads-requires-after_bounds g c κs within =
     let home = g.W.PacketWorker.home in let takes = g.W.PacketWorker.takes in let awaits = g.W.PacketWorker.awaits in let h = c.requires.takes.0 in
     let shares : List (Share g.row.T.Denot g.row.W.Denot) = c.in_ok-shares.shares.items in
     let dealt = c.in_ok-shares.ensures.packets in let active = c.split_off.new.self.items in let n = c.busy_count-busy.result in
