@@ -1,10 +1,9 @@
 -- If one seat has all parts, the log is what one of them saw.
-use Rattle.std.proofs.Common.{◌≡◌, ◌≢◌, ◌⊎◌, inl, inr, ⊎_elim, ℕ, zero, suc, ◌+◌, ◌<◌, ◌≤◌, ◌==◌, Bool, cond, eq-eqb, ne_eqb, List, [], ◌∷◌, ◌++◌, length, refl, ap, sym, ◌∙◌, subst, arith, append_assoc, length-append}
+use Rattle.std.proofs.Common.{◌≡◌, ◌≢◌, ◌⊎◌, inl, inr, ⊎_elim, ℕ, zero, suc, ◌+◌, ◌<◌, ◌==◌, Bool, cond, eq-eqb, ne_eqb, List, [], ◌∷◌, ◌++◌, length, refl, ap, sym, ◌∙◌, subst, arith, append_assoc, length-append}
 use Rattle.std.specs.List.{Contains}
-use Rattle.std.proofs.lemmas.Bool.{cases_eq, cases_lt}
+use Rattle.std.proofs.lemmas.Bool.{cases_eq}
 use Rattle.std.proofs.lemmas.List.{append-nil}
 use Rattle.std.proofs.lemmas.List.Sums.{sum_by-cons}
-use mathlib.Core.List.{IsPrefix}
 use mathlib.Core.Option.{some}
 use lib.ListN.{get_elem?}
 use Rattle.atomic_table.specs.Table.{State}
@@ -16,7 +15,7 @@ use Rattle.mutator_core.specs.Histories.{IsLog}
 use Rattle.mutator_rule.specs.declared.views.EpochStart.{EpochStart}
 use Rattle.mutator_rule.specs.declared.views.MutatorView.{MutatorView}
 use Rattle.mutator_rule.specs.Views.{epoch_with, views_of, times_in, steps_by}
-use Rattle.mutator_rule.specs.Logs.{AgreesWithLog, Agrees, HasOneLog}
+use Rattle.mutator_rule.specs.Logs.{AgreesWithLog, HasOneLog}
 use Rattle.mutator_rule.proofs.Pushes.{own-push, steps-append}
 
 module _ {A : Type 0} where

@@ -1,5 +1,5 @@
 -- Lists as loops take them apart.
-use Rattle.std.proofs.Common.{◌≡◌, ℕ, zero, suc, ◌<◌, List, [], ◌∷◌, ◌++◌, length, map, take, drop, refl, ap, sym, subst, arith}
+use Rattle.std.proofs.Common.{◌≡◌, ℕ, zero, suc, ◌<◌, List, [], ◌∷◌, ◌++◌, length, take, drop, refl, ap, sym, arith}
 use mathlib.Core.Option.{some}
 use lib.ListN.{get_or, get_elem?}
 use Rattle.mutator_calls.specs.declared.need.Mutator.{Mutator}

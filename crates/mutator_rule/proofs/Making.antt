@@ -1,15 +1,13 @@
 -- Each step keeps the rule: one proof for every event of the mutator machine.
-use Rattle.std.proofs.Common.{◌≡◌, ◌≢◌, ℕ, zero, suc, ◌+◌, ◌<◌, ◌≤◌, Bool, true, false, nat_eq, List, [], ◌∷◌, ◌++◌, length, inl, inr, refl, ap, sym, ◌∙◌, subst, ⊎_elim, arith}
+use Rattle.std.proofs.Common.{◌≡◌, ◌≢◌, ℕ, zero, suc, ◌+◌, ◌<◌, ◌≤◌, true, false, nat_eq, List, [], ◌∷◌, ◌++◌, inl, inr, refl, ap, sym, ◌∙◌, subst, ⊎_elim, arith}
 use Rattle.std.specs.Prelude.{slice_index, slice_set}
 use Rattle.std.proofs.lemmas.List.{set-get_or}
 use Rattle.std.proofs.lemmas.Bool.{cases_eq, eqb-true, eqb-false}
 use Rattle.std.specs.List.{Contains}
 use mathlib.Core.Option.{some, some-injective, some-ne-none}
-use mathlib.Core.List.{IsPrefix}
 use lib.ListN.{get_elem?}
 use Rattle.atomic_table.specs.Table.{State, Me, Act, Valid, keeps, Allows, stepped, carried_after}
 use Rattle.atomic_table.proofs.Lists.{at_set}
-use Rattle.ideal_heap.specs.Ideal.{IdealHeap}
 use Rattle.object_model.specs.Graphs.{numbers_of}
 use Rattle.sessions.specs.Plans.{Rules}
 use Rattle.mutator_core.specs.declared.state.Local.{Local}
@@ -23,7 +21,7 @@ use Rattle.mutator_rule.specs.declared.views.EpochStart.{EpochStart}
 use Rattle.mutator_rule.specs.declared.views.MutatorView.{MutatorView}
 use Rattle.mutator_rule.specs.Views.{epoch_with, first_of, views_of, times_in, steps_by}
 use Rattle.mutator_rule.specs.Logs.{times_dealt, AgreesWithLog, Agrees, HasOneLog, MakesStepIn, MakesStep, MakesStepAlone, LeavesWord, StaysInRow, entry_for}
-use Rattle.mutator_rule.proofs.Pushes.{after-push, log-push, own-push, other-push, steps-append, prefix-push, prefix-self, nothing-more, own-state, other-state, counted}
+use Rattle.mutator_rule.proofs.Pushes.{after-push, log-push, other-push, steps-append, prefix-push, prefix-self, nothing-more, own-state, other-state, counted}
 use Rattle.mutator_rule.proofs.Totals.{total_set, total_one, total_two, parts_one, parts_has}
 use Rattle.mutator_rule.proofs.Moments.{number, inside-row}
 

@@ -1,26 +1,22 @@
 -- What the laws of the mutator machine give at one moment.
-use Rattle.std.proofs.Common.{◌≡◌, ◌≢◌, ℕ, zero, suc, ◌+◌, ◌*◌, ◌<◌, ◌≤◌, ◌^◌, ◌⊎◌, List, length, refl, ap, sym, ◌∙◌, subst, arith, inl, inr}
+use Rattle.std.proofs.Common.{◌≡◌, ◌≢◌, ℕ, ◌+◌, ◌<◌, ◌≤◌, ◌⊎◌, List, length, ap, ◌∙◌, subst, arith, inl, inr}
 use Rattle.std.specs.List.{Contains}
 use Rattle.std.proofs.lemmas.Bool.{cases_eq}
-use Rattle.std.proofs.lemmas.List.{length-set}
 use Rattle.heap_layout.specs.Zones.{row_words, heap_of}
 use Rattle.ideal_heap.specs.Ideal.{IdealHeap}
-use Rattle.object_model.specs.Objects.{HeapState, word_at, IsHeld, size_of, size_at}
+use Rattle.object_model.specs.Objects.{HeapState, IsHeld, size_of, size_at}
 use Rattle.object_model.specs.Graphs.{IsMutatorState, numbers_of, register_at}
 use Rattle.object_model.specs.Lawful.{IsWellFormed}
 use Rattle.object_model.proofs.Among.{all-at}
 use Rattle.object_model.proofs.ObjectReads.{ends_in_row}
 use Rattle.mutator_core.specs.declared.state.Local.{Local}
 use Rattle.mutator_core.specs.declared.state.LogEntry.{LogEntry}
-use Rattle.mutator_core.specs.Machine.{Epoch, first_machine, heap_in, address_in, refs_in, nums_in, mutator_of, mutators_in}
+use Rattle.mutator_core.specs.Machine.{Epoch, first_machine, address_in, refs_in, nums_in, mutator_of, mutators_in}
 use Rattle.mutator_core.specs.Logs.{IsEpochLog, machine_after, heap_after, local_after_log}
 use Rattle.mutator_core.proofs.Beginnings.{Ends, log-ends}
 use Rattle.mutator_core.proofs.Lists.{among}
 use Rattle.mutator_core.specs.Epochs.{IsInEpoch}
-use Rattle.sessions.specs.Plans.{Rules}
-use Rattle.mutator_rule.specs.declared.views.EpochStart.{EpochStart}
 use Rattle.mutator_rule.specs.declared.views.MutatorView.{MutatorView}
-use Rattle.mutator_rule.specs.Views.{epoch_with}
 use Rattle.mutator_rule.specs.Logs.{StaysInRow, KnowsLog}
 
 module _ (p : Epoch) (i : IdealHeap) (log : List LogEntry) (is : IsEpochLog p i log) where

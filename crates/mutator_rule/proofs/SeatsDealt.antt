@@ -1,30 +1,29 @@
 -- The rule as an epoch begins, when seats are dealt and gathered, and at the end.
-use Rattle.std.proofs.Common.{◌≡◌, ◌≢◌, ℕ, zero, suc, ◌+◌, ◌<◌, ◌≤◌, ◌==◌, Bool, cond, eq-eqb, ne_eqb, nat_eq, List, [], ◌∷◌, ◌++◌, length, map, set, take, drop, refl, sym, ◌∙◌, ap, subst, ⊎_elim, inl, inr, arith}
-use Rattle.std.specs.Prelude.{slice_index}
+use Rattle.std.proofs.Common.{◌≡◌, ◌≢◌, ℕ, zero, suc, ◌+◌, ◌<◌, ◌≤◌, ◌==◌, Bool, cond, eq-eqb, ne_eqb, List, [], ◌∷◌, ◌++◌, length, map, set, take, drop, refl, sym, ◌∙◌, ap, subst, ⊎_elim, inl, inr, arith}
 use Rattle.std.specs.List.{Contains, AllByRecursion}
-use Rattle.std.proofs.lemmas.Bool.{cases_eq, cond-true, cond-false, eqb-true}
+use Rattle.std.proofs.lemmas.Bool.{cases_eq}
 use Rattle.std.proofs.lemmas.List.Sums.{sum_by-cons, sum_by_push}
 use mathlib.Core.Option.{some, some-injective, some-ne-none}
 use lib.ListN.{get_elem?}
-use Rattle.atomic_table.specs.Table.{State, Splits, Joins, Enters, opening, Final, Seen}
+use Rattle.atomic_table.specs.Table.{Splits, Joins, opening, Final, Seen}
 use Rattle.atomic_table.proofs.Lists.{at_set, at_snoc}
 use Rattle.ideal_heap.specs.Ideal.{IdealHeap}
-use Rattle.object_model.specs.Graphs.{MutatorState, AreDifferent, Represents, numbers_of}
+use Rattle.object_model.specs.Graphs.{AreDifferent, Represents, numbers_of}
 use Rattle.object_model.proofs.Among.{number-among}
 use Rattle.sessions.specs.Plans.{Rules}
 use Rattle.mutator_calls.specs.declared.need.Mutator.{Mutator}
 use Rattle.mutator_core.specs.declared.state.LogEntry.{LogEntry}
-use Rattle.mutator_core.specs.Machine.{Epoch, first_machine, first_local, first_local_of}
+use Rattle.mutator_core.specs.Machine.{Epoch, first_local, first_local_of}
 use Rattle.mutator_core.specs.Epochs.{EpochMayBegin}
-use Rattle.mutator_core.specs.Logs.{IsEpochLog, local_after_log}
+use Rattle.mutator_core.specs.Logs.{IsEpochLog}
 use Rattle.mutator_core.specs.declared.state.Local.{Local}
 use Rattle.mutator_rule.proofs.Moments.{inside-row}
 use Rattle.mutator_core.proofs.Beginnings.{differ-head, differ-tail}
 use Rattle.mutator_core.proofs.SomeIdeal.{own-local}
 use Rattle.mutator_rule.specs.declared.views.EpochStart.{EpochStart}
 use Rattle.mutator_rule.specs.declared.views.MutatorView.{MutatorView}
-use Rattle.mutator_rule.specs.Views.{mutator_state, epoch_with, first_view, first_views, first_views_of, first_of, views_of, times_in}
-use Rattle.mutator_rule.specs.Logs.{times_dealt, AgreesWithLog, Agrees, HasOneLog, EndsWith, KnowsLog, StaysInRow}
+use Rattle.mutator_rule.specs.Views.{mutator_state, epoch_with, first_view, first_views, first_views_of, views_of, times_in}
+use Rattle.mutator_rule.specs.Logs.{Agrees, HasOneLog, EndsWith, KnowsLog, StaysInRow}
 use Rattle.mutator_rule.proofs.Longest.{longest}
 use Rattle.mutator_rule.proofs.Totals.{total_set, parts_append}
 

@@ -1,19 +1,17 @@
 -- What is known at the steps of an allocation.
-use Rattle.std.proofs.Common.{◌≡◌, ◌≢◌, refl, sym, ◌∙◌, ap, subst, ℕ, ◌+◌, ◌-◌, ◌%◌, ◌^◌, ◌<◌, ◌≤◌, ◌⊎◌, inl, inr, ⊎_elim, arith, IsTrue, Bool, true, false, nat_eq, eq-eqb, List, [], ◌∷◌, ◌++◌, length}
-use Rattle.std.specs.Prelude.{bit_or, IfSome, IfNone, Option, Some, None, unwrap_or, if◌then◌else◌}
+use Rattle.std.proofs.Common.{◌≡◌, ◌≢◌, refl, sym, ◌∙◌, ap, subst, ℕ, ◌+◌, ◌-◌, ◌%◌, ◌^◌, ◌<◌, ◌≤◌, inl, inr, arith, IsTrue, Bool, true, false, nat_eq, eq-eqb, List, [], ◌∷◌, ◌++◌}
+use Rattle.std.specs.Prelude.{bit_or, IfNone, Option, Some, None, unwrap_or, if◌then◌else◌}
 use Rattle.std.specs.List.{Contains}
-use Rattle.std.proofs.lemmas.Bool.{cases_eq, cases_lt, cond-false, cond-true, ne_eqb}
-use Rattle.heap_layout.specs.Zones.{heap_of, block_start, block_at, offset_at, IsAddress}
+use Rattle.std.proofs.lemmas.Bool.{cond-false, cond-true, ne_eqb}
+use Rattle.heap_layout.specs.Zones.{heap_of, block_at}
 use Rattle.heap_layout.specs.Blocks.{is_block_code}
 use Rattle.heap_layout.specs.declared.layout.Layout.{Layout}
 use Rattle.heap_layout.specs.declared.block.Kind.{Kind}
 use Rattle.heap_layout.specs.declared.block.Kind.TheVariants as kinds
-use Rattle.ideal_heap.specs.Names.{IsName}
 use Rattle.ideal_heap.specs.Runs.{Entry, entry}
 use Rattle.ideal_heap.specs.declared.command.Command.{Command}
 use Rattle.ideal_heap.specs.declared.reply.Reply.{Reply}
-use Rattle.object_model.specs.Objects.{HeapState, block_word, owner_at, HasKind, size_of, cell_words}
-use Rattle.object_model.specs.Graphs.{IsMutatorState}
+use Rattle.object_model.specs.Objects.{HeapState, block_word, owner_at, HasKind}
 use Rattle.object_model.proofs.OneKind.{kind-from}
 use Rattle.object_model.specs.BitWords.{bit_place}
 use Rattle.side_meta.specs.BitWords.{with_bit}
@@ -26,27 +24,23 @@ use Rattle.mutator_core.specs.declared.state.Loaded.{Loaded}
 use Rattle.mutator_core.specs.declared.state.LogEntry.{LogEntry}
 use Rattle.mutator_core.specs.declared.state.Local.{Local}
 use Rattle.mutator_core.specs.declared.state.OwnedBlock.{OwnedBlock}
-use Rattle.mutator_core.specs.Machine.{Epoch, mutator_of, next_name, nothing_unpublished, taken, owned_code}
-use Rattle.mutator_core.specs.Guards.{MayBegin, IsAvailable, IsCell}
-use Rattle.mutator_core.specs.Epochs.{IsInEpoch, IsOwned, IsMade, KnowsItsState}
+use Rattle.mutator_core.specs.Machine.{Epoch, taken, owned_code}
+use Rattle.mutator_core.specs.Epochs.{IsInEpoch, IsOwned, IsMade}
 use Rattle.mutator_core.specs.Logs.{IsEpochLog, machine_after, heap_after}
 use Rattle.mutator_core.specs.Seen.{HasSeenUsed}
 use Rattle.mutator_core.proofs.Fills.{owned-owner}
 use Rattle.mutator_core.proofs.Places.{place-owner}
-use Rattle.mutator_core.proofs.Lists.{contains-cases, contains-here, contains-there}
+use Rattle.mutator_core.proofs.Lists.{contains-here, contains-there}
 use Rattle.mutator_rule.specs.declared.views.EpochStart.{EpochStart}
 use Rattle.mutator_rule.specs.declared.views.MutatorView.{MutatorView}
 use Rattle.mutator_rule.specs.Seats.{IsSeatOf}
-use Rattle.mutator_rule.specs.Views.{epoch_with}
 use Rattle.mutator_rule.specs.Logs.{MakesStep, KnowsLog}
 use Rattle.mutator_rule.proofs.Moments as moments
 use Rattle.racing_mutator.specs.declared.racing.Racing.{Racing}
-use Rattle.racing_mutator.specs.RacingSeats.{view, local, epoch_of_racing, IsReady, Makes, holdings, Holdings, UsesItsBlocks}
-use Rattle.block_regions.proofs.Regions.{most-cell}
+use Rattle.racing_mutator.specs.RacingSeats.{view, local, epoch_of_racing, Makes, holdings}
 use Rattle.racing_rooms.proofs.BlockCodes.{block-code, free-word}
-use Rattle.racing_mutator.specs.Births.{with_ticket}
 use Rattle.racing_mutator.specs.Looks.{with_block_word}
-use Rattle.racing_rooms.specs.Rooms.{Suits, with_object}
+use Rattle.racing_rooms.specs.Rooms.{Suits}
 use Rattle.racing_mutator.specs.SeatLaws.{makes-both}
 use Rattle.racing_mutator.proofs.Looking.{just-before}
 

@@ -1,8 +1,8 @@
 -- The view of a block that a mutator looked at, while the block has no owner.
-use Rattle.std.proofs.Common.{◌≡◌, refl, sym, ◌∙◌, ap, subst, ℕ, ◌+◌, ◌*◌, ◌-◌, ◌/◌, ◌%◌, ◌<◌, ◌≤◌, ◌⊎◌, inl, inr, arith, IsTrue, List, length, slice_index}
-use Rattle.heap_layout.specs.Zones.{StartBits, HeapWords, InZone, IsAddress, first, heap_of, block_at, block_start}
+use Rattle.std.proofs.Common.{◌≡◌, sym, ◌∙◌, ap, subst, ℕ, ◌+◌, ◌*◌, ◌-◌, ◌<◌, inl, inr, arith, List, slice_index}
+use Rattle.heap_layout.specs.Zones.{StartBits, HeapWords, InZone, IsAddress, first, block_at, block_start}
 use Rattle.ideal_heap.specs.Ideal.{IdealHeap}
-use Rattle.line_marks.specs.Bits.{bit_in, IsLastBit, HasNoBit}
+use Rattle.line_marks.specs.Bits.{bit_in, IsLastBit}
 use Rattle.object_model.specs.BitWords.{bit_word}
 use Rattle.object_model.specs.Objects.{HeapState, word_at, owner_at, is_start, IsHeld, size_at, size_of}
 use Rattle.plan_api.specs.declared.block_view.BlockView.{BlockView}

@@ -1,10 +1,9 @@
 -- A Free block that a mutator took, and a ticket that it drew.
-use Rattle.std.proofs.Common.{◌≡◌, ◌≢◌, refl, sym, ◌∙◌, ap, subst, ℕ, ◌+◌, ◌<◌, ◌≤◌, arith, Bool, true, false, List, [], ◌∷◌, length, slice_get}
+use Rattle.std.proofs.Common.{◌≡◌, ◌≢◌, refl, sym, ◌∙◌, ap, subst, ℕ, ◌<◌, ◌≤◌, arith, Bool, true, List, [], ◌∷◌, length, slice_get}
 use Rattle.std.specs.Prelude.{Option, Some, None}
 use Rattle.std.specs.List.{Contains}
 use Rattle.heap_layout.specs.Zones.{block_at}
 use Rattle.heap_layout.specs.declared.block.Kind.TheVariants as kinds
-use Rattle.heap_layout.specs.declared.region.Region.{Region}
 use Rattle.object_model.specs.Objects.{HeapState, HasKind}
 use Rattle.sessions.specs.Fitting.{class_for}
 use Rattle.sessions.specs.Plans.{Rules}

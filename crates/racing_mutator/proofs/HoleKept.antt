@@ -1,20 +1,17 @@
 -- The hole region stays where another block's region is filled, or a block is taken for the overflow region.
-use Rattle.std.proofs.Common.{◌≡◌, ◌≢◌, refl, sym, ◌∙◌, ap, subst, ℕ, ◌+◌, ◌≤◌, ◌⊎◌, inl, inr, Option, List}
+use Rattle.std.proofs.Common.{◌≡◌, refl, sym, ◌∙◌, ap, subst, ℕ, ◌+◌, ◌≤◌, ◌⊎◌, inl, inr, Option, List}
 use Rattle.std.specs.Prelude.{Some, None, slice_get, slice_set}
 use Rattle.heap_layout.specs.declared.region.Region.{Region}
 use Rattle.block_regions.specs.declared.block_notes.BlockNote.{BlockNote}
 use Rattle.block_regions.specs.declared.block_notes.BlockNote.TheVariants.{Owned}
 use Rattle.block_regions.proofs.Elements.{set-other}
 use Rattle.plan_api.specs.Cursors.{RegionHasRoom}
-use Rattle.local_allocators.specs.MutatorRegions.{KeepsHole, Overflows, cursors_of}
+use Rattle.local_allocators.specs.MutatorRegions.{KeepsHole, cursors_of}
 use Rattle.local_allocators.specs.NotedRegions.{region_of, region_noted}
-use Rattle.local_allocators.specs.NotedSeats.{regions_in}
 use Rattle.local_allocators.specs.Seats.{block_of}
 use Rattle.mutator_core.specs.Guards.{allowance}
 use Rattle.mutator_rule.specs.declared.seat.MutatorSeat.{MutatorSeat}
-use Rattle.mutator_rule.specs.declared.views.EpochStart.{EpochStart}
-use Rattle.mutator_rule.specs.Views.{epoch_with}
-use Rattle.mutator_rule.specs.Seats.{known, local_of, epoch_of_seat}
+use Rattle.mutator_rule.specs.Seats.{local_of, epoch_of_seat}
 use Rattle.sessions.specs.Plans.{Rules}
 use Rattle.racing_rooms.specs.NoRoom.{regions_at}
 use Rattle.racing_mutator.specs.Searches.{KeepsHoleRegion, KeepsBlocks}

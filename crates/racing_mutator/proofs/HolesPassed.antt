@@ -1,5 +1,5 @@
 -- Blocks without an owner that have no hole for a size.
-use Rattle.std.proofs.Common.{◌≡◌, ◌≢◌, refl, sym, ◌∙◌, ap, subst, ℕ, ◌+◌, ◌*◌, ◌/◌, ◌%◌, ◌<◌, ◌≤◌, ◌⊎◌, inl, inr, arith, IsTrue, List, [], ◌∷◌, ◌++◌, length, slice_get}
+use Rattle.std.proofs.Common.{◌≡◌, ◌≢◌, refl, sym, ◌∙◌, ap, subst, ℕ, ◌+◌, ◌*◌, ◌/◌, ◌%◌, ◌<◌, ◌≤◌, ◌⊎◌, inl, inr, arith, IsTrue, List, [], ◌∷◌, ◌++◌, slice_get}
 use Rattle.std.specs.Prelude.{Some, Option, None, slice_set}
 use Rattle.std.specs.List.{Contains}
 use Rattle.std.proofs.lemmas.Bool.{cases_eq, cases_lt}
@@ -13,7 +13,7 @@ use Rattle.heap_layout.specs.declared.region.Region.{Region}
 use Rattle.ideal_heap.specs.Ideal.{IdealHeap}
 use Rattle.ideal_heap.specs.Runs.{Entry}
 use Rattle.object_model.specs.Objects.{HeapState, HasKind, block_word, owner_at, class_at, IsHeld, size_at, size_of}
-use Rattle.object_model.proofs.OneKind.{kind-code, kind-within}
+use Rattle.object_model.proofs.OneKind.{kind-code}
 use Rattle.sessions.specs.Fitting.{HasHole, class_for}
 use Rattle.sessions.specs.Plans.{Rules}
 use Rattle.sessions.specs.Sessions.{block_of_kind}
@@ -56,7 +56,7 @@ use Rattle.racing_mutator.specs.declared.racing.Racing.{Racing}
 use Rattle.racing_mutator.specs.RacingSeats.{view, local, holdings, epoch_of_racing, heap_seen, IsReady, OnlyLoads, Makes}
 use Rattle.racing_rooms.specs.Rooms.{Holdings, HasRooms, HasRoomsIn, AllocatesIn, IsOwnRegion}
 use Rattle.racing_rooms.specs.NoRoom.{regions_at, LacksUnownedBelow}
-use Rattle.racing_mutator.specs.Searches.{Searches, TakesNothing, TakesHole}
+use Rattle.racing_mutator.specs.Searches.{TakesNothing, TakesHole}
 use Rattle.racing_mutator.specs.Holes.{LacksFrom, IsTakenOrLacks, IsNotedUnowned, NotesUnowned, OnlySearches, Lacks}
 use Rattle.racing_mutator.specs.Looks.{HasLooked}
 use Rattle.racing_rooms.proofs.Known.{knows}

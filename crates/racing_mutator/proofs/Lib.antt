@@ -22,4 +22,5 @@ pub mod LinesSeen
 pub mod HolesTaken
 pub mod RoomTaken
 pub mod HoleKept
+pub mod RegionsMoved
 pub mod Written

@@ -1,6 +1,6 @@
 -- Holes of blocks that a mutator looked at, and those of lines by the line words of the epoch's beginning.
-use Rattle.std.proofs.Common.{◌≡◌, sym, ◌∙◌, ap, subst, ℕ, ◌+◌, ◌*◌, ◌<◌, ◌≤◌, ◌⊎◌, inl, inr, List, slice_index}
-use Rattle.std.specs.Prelude.{Option, Some, None}
+use Rattle.std.proofs.Common.{◌≡◌, sym, ◌∙◌, ap, subst, ℕ, ◌+◌, ◌*◌, ◌<◌, ◌≤◌, inl, inr, List, slice_index}
+use Rattle.std.specs.Prelude.{Option, None}
 use Rattle.heap_layout.specs.Zones.{LineWords, first}
 use Rattle.heap_layout.specs.Blocks.{code_of, kind_code}
 use Rattle.heap_layout.specs.declared.block.Kind.{Kind}

@@ -1,5 +1,5 @@
 -- What loads of words of a block tell.
-use Rattle.std.proofs.Common.{◌≡◌, ◌≢◌, refl, sym, ◌∙◌, ap, subst, ℕ, ◌+◌, ◌*◌, ◌-◌, ◌/◌, ◌%◌, ◌<◌, ◌≤◌, ◌⊎◌, inl, inr, arith, IsTrue, List, [], ◌∷◌, ◌++◌, length, slice_index, nat_eq, eq-eqb, eqb-true, true}
+use Rattle.std.proofs.Common.{◌≡◌, sym, ◌∙◌, ap, subst, ℕ, ◌+◌, ◌*◌, ◌-◌, ◌/◌, ◌%◌, ◌<◌, ◌≤◌, inl, inr, arith, IsTrue, List, ◌++◌, length, slice_index, eq-eqb, eqb-true, true}
 use Rattle.std.specs.List.{Contains}
 use Rattle.std.specs.Int.{bit_at}
 use Rattle.heap_layout.specs.Blocks.{is_block_code}
@@ -8,7 +8,7 @@ use Rattle.heap_layout.specs.Zones.{LineWords, StartBits, InZone, IsAddress, blo
 use Rattle.heap_layout.proofs.MarkLemmas.{address_bit-at_address}
 use Rattle.line_marks.specs.Bits.{bit_in}
 use Rattle.object_model.specs.BitWords.{bit_word, bit_place}
-use Rattle.object_model.specs.Objects.{HeapState, word_at, block_word, owner_at, IsHeld, is_start}
+use Rattle.object_model.specs.Objects.{HeapState, word_at, block_word, owner_at, IsHeld}
 use Rattle.object_model.proofs.Marks as marks
 use Rattle.object_model.proofs.ObjectReads.{readable}
 use Rattle.sessions.specs.Plans.{Rules}
@@ -19,7 +19,7 @@ use Rattle.mutator_core.specs.declared.state.LogEntry.{LogEntry}
 use Rattle.mutator_core.specs.Machine.{Epoch}
 use Rattle.mutator_core.specs.Epochs.{IsInEpoch, IsOwned}
 use Rattle.mutator_core.specs.Guards.{HasSeenStart}
-use Rattle.mutator_core.specs.Logs.{IsEpochLog, machine_after, heap_after, local_after_log}
+use Rattle.mutator_core.specs.Logs.{machine_after, heap_after, local_after_log}
 use Rattle.mutator_core.specs.Seen.{IsLoaded}
 use Rattle.mutator_core.proofs.EpochEnds.{log-loaded, log-seen}
 use Rattle.mutator_core.proofs.Fills.{owned-owner}
@@ -30,7 +30,7 @@ use Rattle.mutator_rule.specs.Logs.{MakesStep, KnowsLog}
 use Rattle.mutator_rule.specs.Views.{epoch_with}
 use Rattle.mutator_rule.proofs.Moments as moments
 use Rattle.racing_mutator.specs.declared.racing.Racing.{Racing}
-use Rattle.racing_mutator.specs.RacingSeats.{view, local, epoch_of_racing, heap_seen}
+use Rattle.racing_mutator.specs.RacingSeats.{view, local, epoch_of_racing}
 use Rattle.racing_mutator.specs.Looks.{HasLoaded}
 use Rattle.racing_mutator.proofs.Looking.{just-before}
 

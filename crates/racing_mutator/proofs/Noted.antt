@@ -1,13 +1,11 @@
 -- What a change of a mutator's notes leaves, and the parts of an allocation.
-use Rattle.std.proofs.Common.{◌≡◌, ◌≢◌, refl, sym, ◌∙◌, ap, subst, ℕ, ◌+◌, ◌<◌, ◌≤◌, ◌⊎◌, inl, inr, ⊎_elim, arith, List, [], ◌∷◌, ◌++◌}
+use Rattle.std.proofs.Common.{◌≡◌, sym, ◌∙◌, ap, subst, ℕ, ◌⊎◌, inl, inr, ⊎_elim, List, [], ◌∷◌}
 use Rattle.std.specs.List.{Contains}
 use Rattle.std.proofs.lemmas.Bool.{cases_eq}
 use Rattle.std.proofs.lemmas.List.{append-nil}
 use Rattle.heap_layout.specs.Zones.{block_at}
-use Rattle.heap_layout.specs.declared.block.Kind.{Kind}
 use Rattle.heap_layout.specs.declared.block.Kind.TheVariants as kinds
 use Rattle.ideal_heap.specs.Runs.{Entry}
-use Rattle.object_model.specs.Objects.{HasKind}
 use Rattle.sessions.specs.Plans.{Rules}
 use Rattle.mutator_core.specs.declared.state.Extent.{Extent}
 use Rattle.mutator_core.specs.declared.state.OwnedBlock.{OwnedBlock}
@@ -16,10 +14,10 @@ use Rattle.mutator_core.proofs.Lists.{contains-here, contains-there, contains-ca
 use Rattle.mutator_rule.specs.declared.views.MutatorView.{MutatorView}
 use Rattle.mutator_rule.specs.Views.{epoch_with}
 use Rattle.mutator_rule.specs.Logs.{MakesEntries, KnowsLog}
-use Rattle.mutator_rule.specs.Seats.{known, KeepsKnown, start_of}
+use Rattle.mutator_rule.specs.Seats.{KeepsKnown, start_of}
 use Rattle.racing_mutator.specs.declared.racing.Racing.{Racing}
 use Rattle.racing_mutator.specs.Logged.{logged_seen}
-use Rattle.racing_mutator.specs.RacingSeats.{view, local, IsReady, IsAtRest, Makes}
+use Rattle.racing_mutator.specs.RacingSeats.{view, local, IsReady, Makes}
 use Rattle.racing_mutator.specs.SeatLaws.{makes-nothing, makes-both}
 use Rattle.racing_rooms.specs.Rooms.{Holdings, UsesItsBlocks, UsesOthers, with_object}
 use Rattle.racing_mutator.proofs.Logged.{flags-kept}

@@ -1,48 +1,39 @@
 -- That the blocks of a mutator's own have no hole that it may fill.
-use Rattle.std.proofs.Common.{◌≡◌, ◌≢◌, refl, sym, ◌∙◌, ap, subst, ℕ, ◌+◌, ◌*◌, ◌/◌, ◌<◌, ◌≤◌, ◌⊎◌, inl, inr, max, arith, List, [], ◌∷◌, slice_get, slice_index, length}
-use Rattle.std.specs.Prelude.{Option, Some, None, unwrap_or, slice_set}
+use Rattle.std.proofs.Common.{◌≡◌, ◌≢◌, refl, sym, ◌∙◌, ap, subst, ℕ, ◌+◌, ◌*◌, ◌<◌, ◌≤◌, inl, inr, max, arith, List, [], slice_get, slice_index}
+use Rattle.std.specs.Prelude.{Option, Some, None, unwrap_or}
 use Rattle.std.specs.List.{Contains}
-use Rattle.heap_layout.specs.Zones.{LineWords, first, block_at, block_start}
+use Rattle.heap_layout.specs.Zones.{LineWords, first}
 use Rattle.heap_layout.specs.declared.block.Kind.{Kind}
 use Rattle.heap_layout.specs.declared.block.Kind.TheVariants as kinds
 use Rattle.heap_layout.specs.declared.region.Region.{Region}
 use Rattle.line_marks.proofs.HoleRuns.{lines-read}
 use Rattle.object_model.specs.Objects.{HeapState, HasKind, owner_at, class_at}
-use Rattle.sessions.specs.Fitting.{HasHole, class_of, class_for}
+use Rattle.sessions.specs.Fitting.{HasHole, class_for}
 use Rattle.sessions.specs.Plans.{Rules}
-use Rattle.plan_api.specs.Holes.{HasRoomFrom, IsFirstPart, IsFirstHole}
+use Rattle.plan_api.specs.Holes.{HasRoomFrom, IsFirstPart}
 use Rattle.plan_api.proofs.Parts.{FindsLines, first-lines}
-use Rattle.block_regions.specs.Notes.{FillsTails}
 use Rattle.block_regions.specs.declared.block_notes.BlockNote.{BlockNote}
-use Rattle.block_regions.specs.declared.block_notes.BlockNote.TheVariants.{Unowned, Owned}
-use Rattle.block_regions.proofs.Elements.{set-here}
-use Rattle.block_regions.proofs.FilledKinds.{tail-for, filled-class}
-use Rattle.block_regions.proofs.Lists.{get-below, one-element}
+use Rattle.block_regions.specs.declared.block_notes.BlockNote.TheVariants.{Owned}
+use Rattle.block_regions.proofs.FilledKinds.{filled-class}
 use Rattle.local_allocators.specs.declared.local_seat.LocalSeat.{LocalSeat}
-use Rattle.local_allocators.specs.MutatorRegions.{FillsLines}
 use Rattle.local_allocators.specs.NotedRegions.{region_noted}
 use Rattle.local_allocators.specs.Seats.{block_of}
-use Rattle.local_allocators.proofs.SeatRegions.{lines-for}
-use Rattle.mutator_core.specs.declared.state.Local.{Local}
-use Rattle.mutator_core.specs.declared.state.OwnedBlock.{OwnedBlock}
 use Rattle.mutator_core.specs.Machine.{Epoch}
 use Rattle.mutator_core.specs.Epochs.{IsOwned}
 use Rattle.mutator_core.specs.Logs.{heap_after}
 use Rattle.mutator_rule.specs.declared.seat.MutatorSeat.{MutatorSeat}
-use Rattle.mutator_rule.specs.declared.seat_notes.SeatNotes.{SeatNotes}
 use Rattle.mutator_rule.specs.declared.views.MutatorView.{MutatorView}
 use Rattle.mutator_rule.specs.Logs.{KnowsLog}
 use Rattle.mutator_rule.specs.Seats.{known, local_of, epoch_of_seat}
 use Rattle.racing_mutator.specs.declared.racing.Racing.{Racing}
-use Rattle.racing_mutator.specs.RacingSeats.{view, local, epoch_of_racing, Makes, OnlyLoads}
-use Rattle.racing_rooms.specs.Rooms.{Holdings, holdings, HasRooms, HasRoomsIn, AllocatesIn, IsOwnRegion, BeginsMarkedLine, heap_seen_by}
+use Rattle.racing_mutator.specs.RacingSeats.{local, Makes}
+use Rattle.racing_rooms.specs.Rooms.{Holdings, holdings, HasRooms, HasRoomsIn, IsOwnRegion, BeginsMarkedLine, heap_seen_by}
 use Rattle.racing_rooms.specs.NoRoom.{regions_at, LacksOwn}
 use Rattle.racing_rooms.specs.OwnHoles.{LacksLeft}
-use Rattle.racing_mutator.specs.Searches.{HasFound, HasRoomAt, TakesNothing}
+use Rattle.racing_mutator.specs.Searches.{TakesNothing}
 use Rattle.racing_rooms.proofs.Known.{knows}
 use Rattle.racing_rooms.proofs.OwnRegions.{own-later}
-use Rattle.racing_rooms.proofs.OwnSeen.{own-listed, own-class, own-kind, hole-inside, one-class, lines-now}
-use Rattle.racing_rooms.proofs.RoomsNoted.{same-region, rooms-moved}
+use Rattle.racing_rooms.proofs.OwnSeen.{own-listed, own-class, own-kind, hole-inside, lines-now}
 
 -- a mutator that made steps and kept what it has took nothing
 pub takes-kept : {P : Type 0} (rules : Rules) (a b : Racing P) → Makes rules a [] b → holdings (local b) ≡ holdings (local a) → (local b).raised ≡ (local a).raised → (local b).births ≡ (local a).births → TakesNothing rules a b

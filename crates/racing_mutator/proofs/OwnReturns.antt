@@ -1,17 +1,14 @@
 -- What a mutator notes when it allocates in an own block again, or in a later hole of one.
-use Rattle.std.proofs.Common.{◌≡◌, ◌≢◌, refl, sym, ◌∙◌, ap, subst, ℕ, ◌+◌, ◌-◌, ◌<◌, ◌≤◌, arith, false, List, [], ◌∷◌, slice_get, length}
+use Rattle.std.proofs.Common.{◌≡◌, refl, sym, ◌∙◌, ap, subst, ℕ, ◌+◌, ◌-◌, ◌<◌, ◌≤◌, false, List, [], slice_get, length}
 use Rattle.std.specs.Prelude.{Option, Some, slice_set}
-use Rattle.std.specs.List.{Contains}
 use Rattle.heap_layout.specs.declared.region.Region.{Region}
-use Rattle.sessions.specs.Fitting.{class_for}
 use Rattle.sessions.specs.Plans.{Rules}
 use Rattle.block_regions.specs.declared.block_notes.BlockNote.{BlockNote}
-use Rattle.block_regions.specs.declared.block_notes.BlockNote.TheVariants.{Unowned, Owned}
+use Rattle.block_regions.specs.declared.block_notes.BlockNote.TheVariants.{Owned}
 use Rattle.block_regions.proofs.Elements.{set-here, read-some}
 use lib.ListN.{get_or}
 use Rattle.block_regions.proofs.Lists.{get-below, one-element}
 use Rattle.local_allocators.specs.declared.local_seat.LocalSeat.{LocalSeat}
-use Rattle.mutator_core.specs.declared.state.OwnedBlock.{OwnedBlock}
 use Rattle.mutator_core.specs.Machine.{Epoch}
 use Rattle.mutator_core.specs.Logs.{heap_after}
 use Rattle.mutator_rule.specs.declared.seat_notes.SeatNotes.{SeatNotes}
@@ -19,9 +16,9 @@ use Rattle.mutator_rule.specs.declared.views.EpochStart.{EpochStart}
 use Rattle.mutator_rule.specs.declared.views.MutatorView.{MutatorView}
 use Rattle.mutator_rule.specs.Views.{epoch_with}
 use Rattle.mutator_rule.specs.Logs.{MakesEntries, KnowsLog}
-use Rattle.mutator_rule.specs.Seats.{known, local_of, KeepsKnown}
+use Rattle.mutator_rule.specs.Seats.{KeepsKnown}
 use Rattle.racing_mutator.specs.declared.racing.Racing.{Racing}
-use Rattle.racing_mutator.specs.RacingSeats.{view, local, epoch_of_racing, IsReady, Makes, OnlyLoads}
+use Rattle.racing_mutator.specs.RacingSeats.{view, local, epoch_of_racing, IsReady, OnlyLoads}
 use Rattle.racing_mutator.specs.SeatLaws.{makes-both}
 use Rattle.racing_rooms.specs.Rooms.{Holdings, holdings, HasRooms, HasRoomsIn, IsOwnRegion}
 use Rattle.racing_rooms.specs.OwnHoles.{LacksLeft}
@@ -40,10 +37,7 @@ note-read items k n owner region there read is = read-some items k n there read 
 pub note-is : (items : List BlockNote) (k : ℕ) (n m : BlockNote) → k < length items → n ≡ get_or items k n → slice_get items k ≡ Some m → n ≡ m
 note-is items k n m there read is = one-element (slice_get items k) n m (read-some items k n there read) is
 
--- what is left of a block that is noted as nobody's, or has too few words, or has cells of another class
-pub left-unowned : (p : Epoch) (h : Holdings) (notes : List BlockNote) (k size least : ℕ) → slice_get notes k ≡ Some (Unowned least) → LacksLeft p h notes k size
-left-unowned p h notes k size least note owner region is mine = absurd (let wrong : Unowned least ≡ Owned owner region = one-element (slice_get notes k) (Unowned least) (Owned owner region) note is in cc)
-
+-- what is left of a block that has too few words, or cells of another class
 pub left-full : (p : Epoch) (h : Holdings) (notes : List BlockNote) (k size owner : ℕ) (region : Region) → slice_get notes k ≡ Some (Owned owner region) → region.end < region.next + size → LacksLeft p h notes k size
 left-full p h notes k size owner region note full other r is mine = subst (λ (q : Region). q.end < q.next + size) (same-region notes k owner other region r note is) full
 

@@ -4,7 +4,7 @@ use Rattle.std.specs.List.{Contains}
 use Rattle.heap_layout.specs.Blocks.{IsValidWord, code_of, is_block_code}
 use Rattle.heap_layout.specs.declared.block.BlockWord.{BlockWord}
 use Rattle.heap_layout.proofs.BlockLemmas.{is_block_code-code_of}
-use Rattle.object_model.specs.Objects.{HeapState, block_word}
+use Rattle.object_model.specs.Objects.{block_word}
 use Rattle.sessions.specs.Plans.{Rules}
 use Rattle.mutator_core.specs.declared.state.Event.TheVariants as e
 use Rattle.mutator_core.specs.declared.state.Local.{Local}

@@ -1,17 +1,17 @@
 -- What an object leaves of the block of its region.
-use Rattle.std.proofs.Common.{◌≡◌, ◌≢◌, refl, sym, ◌∙◌, ap, subst, ℕ, ◌+◌, ◌*◌, ◌/◌, ◌%◌, ◌<◌, ◌≤◌, ◌⊎◌, inl, inr, arith, mul-le-mul_right, Bool, false, IsTrue, List, ◌∷◌, slice_index}
+use Rattle.std.proofs.Common.{◌≡◌, ◌≢◌, refl, sym, ◌∙◌, ap, subst, ℕ, ◌+◌, ◌*◌, ◌<◌, ◌≤◌, ◌⊎◌, inl, inr, arith, mul-le-mul_right, false, List, ◌∷◌, slice_index}
 use Rattle.std.specs.Prelude.{Some}
 use Rattle.std.specs.List.{Contains}
 use Rattle.std.proofs.lemmas.Bool.{true≢false, cases_lt, cases_eq}
-use Rattle.heap_layout.specs.Zones.{IsAddress, heap_of, row_words, block_at, block_start}
+use Rattle.heap_layout.specs.Zones.{block_start}
 use Rattle.heap_layout.specs.Blocks.{kind_code}
 use Rattle.heap_layout.specs.declared.block.Kind.{Kind}
 use Rattle.heap_layout.specs.declared.block.Kind.TheVariants as kinds
 use Rattle.heap_layout.specs.declared.region.Region.{Region}
 use Rattle.heap_layout.proofs.BlockLemmas.{kind_code_most, code_parts, valid_most}
-use Rattle.object_model.specs.Objects.{HeapState, block_word, HasKind, class_at, cell_words, is_start}
+use Rattle.object_model.specs.Objects.{HeapState, block_word, HasKind, class_at, cell_words}
 use Rattle.object_model.proofs.OneKind.{kind-from}
-use Rattle.sessions.specs.Fitting.{LiesInHole, class_of}
+use Rattle.sessions.specs.Fitting.{LiesInHole}
 use Rattle.mutator_core.specs.declared.state.Extent.{Extent}
 use Rattle.mutator_core.specs.declared.state.Local.{Local}
 use Rattle.mutator_core.specs.declared.state.OwnedBlock.{OwnedBlock}
@@ -24,7 +24,7 @@ use Rattle.mutator_rule.specs.declared.seat.MutatorSeat.{MutatorSeat}
 use Rattle.mutator_rule.specs.Seats.{local_of, epoch_of_seat}
 use Rattle.mutator_rule.specs.declared.views.MutatorView.{MutatorView}
 use Rattle.mutator_rule.specs.Logs.{KnowsLog}
-use Rattle.racing_rooms.specs.Rooms.{Holdings, holdings, HasObjectAt, IsOwnRegion, IsCellRegion, with_object}
+use Rattle.racing_rooms.specs.Rooms.{Holdings, holdings, HasObjectAt, IsOwnRegion, with_object}
 use Rattle.racing_rooms.specs.OwnHoles.{HasSeenTaken, IsNextCell, cell, none}
 use Rattle.racing_mutator.specs.Searches.{PlacesObject}
 use Rattle.racing_rooms.proofs.Known.{knows, cells-or}

@@ -1,7 +1,6 @@
 -- What a search took for room is what the allocation took.
-use Rattle.std.proofs.Common.{◌≡◌, refl, sym, ◌∙◌, ap, subst, ℕ, ◌+◌, ◌<◌, ◌≤◌, ◌⊎◌, inl, inr, arith, [], ◌∷◌, List, Option, length}
+use Rattle.std.proofs.Common.{◌≡◌, sym, ◌∙◌, ap, subst, ℕ, ◌<◌, ◌≤◌, ◌⊎◌, inl, inr, [], ◌∷◌, List, Option}
 use Rattle.std.specs.Prelude.{Some, None, IfSome, IfNone, IfOk, IfErr, Result, Ok, Err}
-use Rattle.std.specs.List.{Contains}
 use Rattle.std.proofs.lemmas.List.{get_or-set_same}
 use Rattle.ideal_heap.specs.Runs.{Entry}
 use Rattle.heap_layout.specs.declared.block.Kind.TheVariants as kinds
@@ -23,10 +22,10 @@ use Rattle.mutator_rule.specs.declared.seat.MutatorSeat.{MutatorSeat}
 use Rattle.mutator_rule.specs.Views.{epoch_with}
 use Rattle.mutator_rule.specs.Seats.{known, local_of, epoch_of_seat}
 use Rattle.racing_mutator.specs.declared.racing.Racing.{Racing}
-use Rattle.racing_mutator.specs.RacingSeats.{view, local, Holdings, holdings, epoch_of_racing, IsReady, Makes}
-use Rattle.racing_rooms.specs.Rooms.{HasRooms, UsesItsBlocks, UsesOthers, with_object}
-use Rattle.racing_rooms.specs.NoRoom.{regions_at, LacksUnowned, LacksUnownedBelow, LacksFreeBelow, LacksOwn, LacksRegionRoom, LacksTriedRegions, HasNoRoom, IsCauseFor}
-use Rattle.racing_mutator.specs.Searches.{Searches, TakesNothing, TakesHole, TakesFree, TakesOneHole, TakesRoom, TakesUnowned, TakesFreeBlock, KeepsTicket, KeepsBlocks, PlacesObject}
+use Rattle.racing_mutator.specs.RacingSeats.{local, Holdings, holdings, epoch_of_racing, IsReady, Makes}
+use Rattle.racing_rooms.specs.Rooms.{HasRooms, with_object}
+use Rattle.racing_rooms.specs.NoRoom.{regions_at, LacksUnowned, LacksUnownedBelow, LacksFreeBelow, LacksOwn, LacksRegionRoom, LacksTriedRegions, HasNoRoom}
+use Rattle.racing_mutator.specs.Searches.{Searches, TakesNothing, TakesHole, TakesFree, TakesOneHole, TakesRoom, KeepsTicket, KeepsBlocks, PlacesObject}
 use Rattle.racing_mutator.specs.Searches.{takes_nothing, takes_hole, takes_free}
 use Rattle.racing_rooms.proofs.RoomLaws.{unowned-later, below-later, free-later, lacks-own-later, lacks-own-earlier, no-room, no-room-later, tried-full, own-lacks, unowned-lacks}
 

@@ -1,21 +1,17 @@
 -- The rooms of a mutator after it made an object, or took a block.
-use Rattle.std.proofs.Common.{◌≡◌, ◌≢◌, refl, sym, ◌∙◌, ap, subst, ℕ, ◌+◌, ◌<◌, ◌≤◌, ◌⊎◌, inl, inr, arith, Bool, true, false, List, [], ◌∷◌, length, length-set, slice_get}
-use Rattle.std.specs.Prelude.{Option, Some, None, slice_set}
+use Rattle.std.proofs.Common.{◌≡◌, ◌≢◌, refl, sym, ◌∙◌, subst, ℕ, ◌+◌, ◌<◌, ◌≤◌, ◌⊎◌, inl, inr, arith, Bool, true, false, List, [], ◌∷◌, length, length-set, slice_get}
+use Rattle.std.specs.Prelude.{Option, Some, slice_set}
 use Rattle.std.specs.List.{Contains}
 use Rattle.std.proofs.lemmas.Bool.{cases_eq}
-use Rattle.heap_layout.specs.Zones.{block_start, block_at}
-use Rattle.heap_layout.specs.declared.block.Kind.{Kind}
+use Rattle.heap_layout.specs.Zones.{block_start}
 use Rattle.heap_layout.specs.declared.block.Kind.TheVariants as kinds
 use Rattle.heap_layout.specs.declared.region.Region.{Region}
 use Rattle.ideal_heap.specs.Runs.{Entry}
-use Rattle.object_model.specs.Objects.{HeapState, HasKind}
-use Rattle.sessions.specs.Fitting.{class_for}
+use Rattle.object_model.specs.Objects.{HeapState}
 use Rattle.sessions.specs.Plans.{Rules}
 use Rattle.block_regions.specs.declared.block_notes.BlockNote.{BlockNote}
-use Rattle.block_regions.specs.declared.block_notes.BlockNote.TheVariants.{Unowned, Owned}
-use Rattle.block_regions.specs.Regions.{first_region}
+use Rattle.block_regions.specs.declared.block_notes.BlockNote.TheVariants.{Owned}
 use Rattle.block_regions.proofs.Elements.{set-here, set-other}
-use Rattle.block_regions.proofs.FilledKinds.{whole-room}
 use Rattle.block_regions.proofs.Lists.{one-element}
 use Rattle.local_allocators.specs.declared.local_seat.LocalSeat.{LocalSeat}
 use Rattle.local_allocators.specs.MutatorRegions.{FillsLines}
@@ -23,7 +19,6 @@ use Rattle.mutator_core.specs.declared.state.Extent.{Extent}
 use Rattle.mutator_core.specs.declared.state.OwnedBlock.{OwnedBlock}
 use Rattle.mutator_core.specs.Machine.{Epoch}
 use Rattle.mutator_core.specs.Logs.{heap_after}
-use Rattle.mutator_core.proofs.Lists.{contains-here}
 use Rattle.mutator_rule.specs.declared.views.EpochStart.{EpochStart}
 use Rattle.mutator_rule.specs.declared.seat.MutatorSeat.{MutatorSeat}
 use Rattle.mutator_rule.specs.Views.{epoch_with}
@@ -31,12 +26,11 @@ use Rattle.mutator_rule.specs.Logs.{MakesEntries, KnowsLog}
 use Rattle.mutator_rule.specs.Seats.{known, local_of}
 use Rattle.racing_mutator.specs.declared.racing.Racing.{Racing}
 use Rattle.racing_mutator.specs.RacingSeats.{view, local, holdings, epoch_of_racing, IsReady, Makes}
-use Rattle.racing_rooms.specs.Rooms.{Holdings, HasRooms, HasRoomsIn, IsOwnRegion, with_object}
+use Rattle.racing_rooms.specs.Rooms.{Holdings, HasRooms, IsOwnRegion, with_object}
 use Rattle.racing_mutator.specs.Searches.{HasRoomAt, HasFound, NotesOwn, seat_after}
-use Rattle.racing_rooms.proofs.OwnRegions.{block-is, own-whole}
+use Rattle.racing_rooms.proofs.OwnRegions.{block-is}
 use Rattle.racing_rooms.proofs.RoomsNoted.{rooms-advanced, rooms-taken}
 use Rattle.racing_rooms.proofs.RoomsKept.{rooms-now}
-use Rattle.racing_rooms.proofs.Known.{cells-or}
 
 -- after an object at the start of the region of block k
 module _ {P : Type 0} (rules : Rules) (a : Racing P) (b : MutatorSeat) (k class owner size : ℕ) (region rest : Region) (es : List Entry) (has : HasRooms rules a.seat.now) (note : slice_get a.seat.now.notes.blocks.items k ≡ Some (Owned owner region))

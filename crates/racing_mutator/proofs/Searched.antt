@@ -1,7 +1,6 @@
 -- Searches, one after another.
-use Rattle.std.proofs.Common.{◌≡◌, refl, sym, ◌∙◌, ap, subst, ℕ, ◌+◌, ◌<◌, ◌≤◌, arith, [], ◌∷◌, List}
+use Rattle.std.proofs.Common.{◌≡◌, refl, sym, ◌∙◌, ap, subst, ℕ, ◌+◌, ◌<◌, ◌≤◌, [], ◌∷◌}
 use Rattle.std.specs.List.{Contains}
-use Rattle.std.specs.Prelude.{Some}
 use Rattle.ideal_heap.specs.declared.command.Command.TheVariants as command
 use Rattle.ideal_heap.specs.declared.reply.Reply.TheVariants as reply
 use Rattle.ideal_heap.specs.declared.name.Name.{Name}
@@ -12,7 +11,7 @@ use Rattle.object_model.specs.Objects.{HasKind, size_of}
 use Rattle.sessions.specs.Plans.{Rules}
 use Rattle.mutator_core.specs.declared.state.Local.{Local}
 use Rattle.mutator_core.specs.Machine.{Epoch, next_name}
-use Rattle.mutator_core.specs.Guards.{HasTicket, allowance}
+use Rattle.mutator_core.specs.Guards.{HasTicket}
 use Rattle.mutator_core.specs.Logs.{heap_after, local_after_log}
 use Rattle.mutator_core.specs.Seen.{HasSeenUsed}
 use Rattle.mutator_core.proofs.EpochEnds.{log-seen}
@@ -26,6 +25,7 @@ use Rattle.racing_mutator.specs.RacingSeats.{view, local, Holdings, holdings, ep
 use Rattle.racing_mutator.specs.SeatLaws.{makes-nothing, makes-both}
 use Rattle.racing_rooms.specs.Rooms.{UsesItsBlocks, UsesOthers}
 use Rattle.racing_mutator.specs.Searches.{Searches, TakesNothing, Allocates, PlacesObject, TakesRoom, block_in, KeepsHoleRegion}
+use Rattle.racing_mutator.specs.Regions.{FillsRegion}
 use Rattle.racing_mutator.proofs.Allocated.{then-enters}
 
 -- a block that was seen used is not Free
@@ -75,8 +75,8 @@ module _ {P : Type 0} (rules : Rules) where
   -- an object that is allocated after a search
   pub allocates-after : (a m b : Racing P) (d refs nums : ℕ) (n : Name) → Searches rules a m → Makes rules m (entry (local m).number (command.New d refs nums) (reply.New n) ∷ []) b → n ≡ next_name (local m)
       → (local b).births ≡ (local m).births + 1 → (local b).raised ≡ (local m).raised → size_of refs nums ≤ 2048
-      → PlacesObject rules a.seat.now d (size_of refs nums) b.seat.now → TakesRoom rules a.seat.now (size_of refs nums) (block_in rules b.seat.now d) b.seat.now → KeepsHoleRegion rules a.seat.now (size_of refs nums) b.seat.now → Allocates rules a d refs nums n b
-  allocates-after a m b d refs nums n x makes is births raised small place takes overflow = record {
+      → PlacesObject rules a.seat.now d (size_of refs nums) b.seat.now → TakesRoom rules a.seat.now (size_of refs nums) (block_in rules b.seat.now d) b.seat.now → FillsRegion rules a.seat.now (block_in rules b.seat.now d) d (size_of refs nums) b.seat.now → KeepsHoleRegion rules a.seat.now (size_of refs nums) b.seat.now → Allocates rules a d refs nums n b
+  allocates-after a m b d refs nums n x makes is births raised small place takes region overflow = record {
     makes = then-enters rules a m b (command.New d refs nums) (local m).number (local a).number (reply.New n) (reply.New n) x.makes.goes.number refl x.makes makes;
     name = is ∙ (λ k. name (x.makes.goes.number k) (x.births k + 1));
     births = births ∙ ap (λ q. q + 1) x.births;
@@ -84,5 +84,6 @@ module _ {P : Type 0} (rules : Rules) where
     small = small;
     place = place;
     takes = takes;
+    region = region;
     overflow = overflow;
   }

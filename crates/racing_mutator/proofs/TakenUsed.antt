@@ -1,10 +1,10 @@
 -- The exchange that takes a block without an owner.
-use Rattle.std.proofs.Common.{◌≡◌, ◌≢◌, refl, sym, ◌∙◌, ap, subst, ℕ, ◌+◌, ◌*◌, ◌/◌, ◌%◌, ◌<◌, ◌≤◌, arith, inl, inr, Bool, true, false, nat_eq, eq-eqb, List, [], ◌∷◌, ◌++◌}
+use Rattle.std.proofs.Common.{◌≡◌, ◌≢◌, sym, ◌∙◌, ap, subst, ℕ, ◌+◌, ◌*◌, ◌<◌, ◌≤◌, arith, inl, inr, Bool, true, false, nat_eq, eq-eqb, List, ◌∷◌, ◌++◌}
 use Rattle.std.specs.Prelude.{if◌then◌else◌}
 use Rattle.std.specs.List.{Contains}
 use Rattle.std.proofs.lemmas.Bool.{cond-false, cond-true, ne_eqb}
 use Rattle.heap_layout.specs.Zones.{block_at}
-use Rattle.heap_layout.specs.Blocks.{code_of, kind_code}
+use Rattle.heap_layout.specs.Blocks.{kind_code}
 use Rattle.heap_layout.proofs.BlockLemmas.{kind_code_most}
 use Rattle.object_model.specs.Objects.{HeapState, block_word, owner_at}
 use Rattle.plan_api.specs.declared.block_view.BlockView.{BlockView}

@@ -1,5 +1,5 @@
 -- What a mutator has while an object's words are stored and its start bit is not set: what it had.
-use Rattle.std.proofs.Common.{◌≡◌, refl, sym, ◌∙◌, ap, subst, ℕ, ◌+◌, ◌<◌, List, []}
+use Rattle.std.proofs.Common.{◌≡◌, sym, ◌∙◌, ap, subst, ℕ, ◌+◌, []}
 use Rattle.std.specs.Prelude.{slice_get, Some}
 use Rattle.heap_layout.specs.Zones.{block_start}
 use Rattle.heap_layout.specs.declared.region.Region.{Region}

@@ -6,3 +6,4 @@ pub mod Births
 pub mod Looks
 pub mod Searches
 pub mod Holes
+pub mod Regions

@@ -1,6 +1,7 @@
 -- What the seat of a mutator that races with others knows, and what its steps do. Facts of objects
 -- are those of the heap after the steps that the seat has seen.
-use Rattle.std.specs.Prelude.{◌≡◌, ◌≢◌, ◌<◌, ℕ, true, ◌||◌, Option, Some, List, [], ◌++◌, length, map, slice_get, slice_index}
+use Rattle.std.specs.Prelude.{◌≡◌, ◌≢◌, ◌<◌, ℕ, true, ◌||◌, Option, Some, List, [], ◌++◌, length, map, slice_get}
+use Rattle.std.specs.Prelude.{slice_index}
 use Rattle.std.specs.List.{Contains}
 use Rattle.heap_layout.specs.Zones.{Zone, block_at}
 use Rattle.heap_layout.specs.declared.block.Kind.TheVariants as kinds

@@ -1,5 +1,6 @@
 -- What a search for room leaves.
-use Rattle.std.specs.Prelude.{◌≡◌, ℕ, ◌+◌, ◌<◌, ◌≤◌, ◌⊎◌, Bool, true, false, Option, Some, None, slice_get, slice_set, List, [], ◌∷◌}
+use Rattle.std.specs.Prelude.{◌≡◌, ℕ, ◌+◌, ◌<◌, ◌≤◌, ◌⊎◌, Bool, true, false, Option, Some, None, slice_get, slice_set}
+use Rattle.std.specs.Prelude.{List, [], ◌∷◌}
 use Rattle.heap_layout.specs.Zones.{block_at, block_start}
 use Rattle.heap_layout.specs.declared.region.Region.{Region}
 use Rattle.heap_layout.specs.declared.block.Kind.TheVariants as kinds
@@ -23,9 +24,11 @@ use Rattle.mutator_core.specs.Machine.{Epoch, address_in, next_name}
 use Rattle.mutator_rule.specs.declared.seat.MutatorSeat.{MutatorSeat}
 use Rattle.mutator_rule.specs.Seats.{local_of, epoch_of_seat, IsSeatOf}
 use Rattle.racing_mutator.specs.declared.racing.Racing.{Racing}
+use Rattle.racing_mutator.specs.Regions.{FillsRegion}
 use Rattle.racing_mutator.specs.RacingSeats.{Makes, local, holdings, epoch_of_racing}
 use Rattle.racing_rooms.specs.Rooms.{Holdings, HasRooms, IsOwnRegion}
-use Rattle.racing_rooms.specs.NoRoom.{regions_at, LacksUnowned, LacksUnownedBelow, LacksFreeBelow, LacksTriedRegions, IsCauseFor}
+use Rattle.racing_rooms.specs.NoRoom.{regions_at, LacksUnowned, LacksUnownedBelow, LacksFreeBelow, LacksTriedRegions}
+use Rattle.racing_rooms.specs.NoRoom.{IsCauseFor}
 
 -- what the mutator has for allocation after it took block k for objects of the class, or, if `over`,
 -- for its overflow region
@@ -200,6 +203,8 @@ module _ {P : Type 0} where
     pub small : size_of refs nums ≤ MAX_MEDIUM_WORDS
     pub place : PlacesObject rules a.seat.now d (size_of refs nums) b.seat.now
     pub takes : TakesRoom rules a.seat.now (size_of refs nums) (block_in rules b.seat.now d)
+        b.seat.now
+    pub region : FillsRegion rules a.seat.now (block_in rules b.seat.now d) d (size_of refs nums)
         b.seat.now
     pub overflow : KeepsHoleRegion rules a.seat.now (size_of refs nums) b.seat.now
 

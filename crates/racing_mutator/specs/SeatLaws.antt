@@ -1,5 +1,6 @@
 -- The laws of a racing seat: loads follow one another, and so do effects.
-use Rattle.std.proofs.Common.{◌≡◌, ◌≢◌, ℕ, ◌<◌, List, [], ◌++◌, Bool, true, false, refl, ap, sym, ◌∙◌, subst, append_assoc}
+use Rattle.std.proofs.Common.{◌≡◌, ◌≢◌, ℕ, ◌<◌, List, [], ◌++◌, Bool, true, false, refl, ap, sym, ◌∙◌, subst}
+use Rattle.std.proofs.Common.{append_assoc}
 use Rattle.std.specs.Prelude.{slice_index, ◌||◌}
 use Rattle.std.proofs.lemmas.List.{append-nil, map-append}
 use Rattle.ideal_heap.specs.Runs.{Entry, entry}
@@ -11,7 +12,8 @@ use Rattle.mutator_rule.specs.Logs.{MakesEntries, own_entries}
 use Rattle.racing_mutator.specs.declared.racing.Racing.{Racing}
 use Rattle.mutator_rule.specs.declared.seat_notes.SeatNotes.{SeatNotes}
 use Rattle.racing_rooms.specs.Rooms.{KeepsRooms}
-use Rattle.racing_mutator.specs.RacingSeats.{entries_in, view, local, logged_at, address, HasShape, Makes, DoesEffect, OnlyLoads, IsAged, IsMarked}
+use Rattle.racing_mutator.specs.RacingSeats.{entries_in, view, local, logged_at, address, HasShape, Makes, DoesEffect}
+use Rattle.racing_mutator.specs.RacingSeats.{OnlyLoads, IsAged, IsMarked}
 
 pub or-false : (b : Bool) → (b || false) ≡ b
 or-false true = refl

@@ -20,6 +20,7 @@ ghost use Rattle.racing_rooms.specs.Rooms.{HasRooms, UsesItsBlocks, UsesOthers};
 ghost use Rattle.racing_rooms.specs.NoRoom.{regions_at, LacksUnowned, LacksUnownedBelow};
 ghost use Rattle.racing_mutator.specs.Searches.{HasFound, Searches, TakesNothing, TakesHole};
 ghost use Rattle.racing_mutator.specs.Looks.{HasLooked};
+ghost use Rattle.racing_mutator.specs.Regions.{FindsRegion};
 ghost use Rattle.racing_mutator.specs.Holes.{LacksFrom, IsNotedUnowned, OnlySearches, Lacks, SeesHole};
 
 use crate::own_holes::clear_lines;
@@ -214,6 +215,8 @@ impl<P: Plan> Racing<'_, '_, P> {
             → UsesOthers (epoch_of_racing P.rules self.old) (holdings (local self.new)) block }
         ensures takes { result ≡ true → TakesHole P.rules self.old self.new block
             (class_for P.rules.fill size) }
+        ensures region { result ≡ true
+            → FindsRegion P.rules self.old.seat.now size block self.new.seat.now }
         ensures only { result ≡ false → OnlySearches P.rules self.old self.new }
         ensures lacks { result ≡ false → Lacks P.rules self.new block size }
     {
@@ -248,6 +251,8 @@ impl<P: Plan> Racing<'_, '_, P> {
             → UsesOthers (epoch_of_racing P.rules self.old) (holdings (local self.new)) block }
         ensures takes { result ≡ true → TakesHole P.rules self.old self.new block
             (class_for P.rules.fill size) }
+        ensures region { result ≡ true
+            → FindsRegion P.rules self.old.seat.now size block self.new.seat.now }
         ensures only { result ≡ false → OnlySearches P.rules self.old self.new }
         ensures lacks { result ≡ false → Lacks P.rules self.new block size }
     {
@@ -278,6 +283,8 @@ impl<P: Plan> Racing<'_, '_, P> {
             → UsesOthers (epoch_of_racing P.rules self.old) (holdings (local self.new)) k) }
         ensures takes { IfSome result (λ k. TakesHole P.rules self.old self.new k
             (class_for P.rules.fill size)) }
+        ensures region { IfSome result (λ k.
+            FindsRegion P.rules self.old.seat.now size k self.new.seat.now) }
         ensures nothing { IfNone result (TakesNothing P.rules self.old self.new) }
         ensures ticket { IfNone result ((local self.new).ticket ≡ (local self.old).ticket) }
         ensures regions { IfNone result (

@@ -13,9 +13,10 @@ ghost use Rattle.block_regions.specs.declared.block_notes.BlockNote.TheVariants.
 ghost use Rattle.mutator_core.specs.declared.state.OwnedBlock.{OwnedBlock};
 ghost use Rattle.racing_mutator.specs.RacingSeats.{IsReady, OnlyLoads, local, holdings, epoch_of_racing};
 ghost use Rattle.racing_rooms.specs.Rooms.{HasRooms};
-ghost use Rattle.racing_rooms.specs.NoRoom.{regions_at, LacksOwn};
+ghost use Rattle.racing_rooms.specs.NoRoom.{regions_at, LacksOwn, LacksRegionRoom};
 ghost use Rattle.racing_rooms.specs.OwnHoles.{IsNextCell, LacksLeft};
 ghost use Rattle.racing_mutator.specs.Searches.{HasFound, TakesNothing};
+ghost use Rattle.racing_mutator.specs.Regions.{FindsRegion};
 
 use crate::looks::no_start_word;
 use crate::racing::{Racing, is_set};
@@ -124,6 +125,8 @@ impl<P: Plan> Racing<'_, '_, P> {
         ensures kept { holdings (local self.new) ≡ holdings (local self.old) }
         ensures found { result ≡ true
             → HasFound P.rules self.new (class_for P.rules.fill size) block size }
+        ensures region { result ≡ true
+            → FindsRegion P.rules self.old.seat.now size block self.new.seat.now }
         ensures notes { result ≡ false
             → self.new.seat.now.notes ≡ self.old.seat.now.notes }
         ensures lacks { result ≡ false → LacksLeft (epoch_of_racing P.rules self.old)
@@ -153,12 +156,15 @@ impl<P: Plan> Racing<'_, '_, P> {
         requires lines { P.rules.fill ≡ kinds.Immix }
         requires least { HEADER_WORDS ≤ size }
         requires most { size ≤ MAX_MEDIUM_WORDS }
+        requires full { LacksRegionRoom P.rules self.old.seat.now size }
         ensures ready { IsReady P.rules self.new }
         ensures rooms { HasRooms P.rules self.new.seat.now }
         ensures takes { TakesNothing P.rules self.old self.new }
         ensures kept { holdings (local self.new) ≡ holdings (local self.old) }
         ensures found { IfSome result (λ k.
             HasFound P.rules self.new (class_for P.rules.fill size) k size) }
+        ensures region { IfSome result (λ k.
+            FindsRegion P.rules self.old.seat.now size k self.new.seat.now) }
         ensures notes { IfNone result (
             self.new.seat.now.notes ≡ self.old.seat.now.notes) }
         ensures lacks { IfNone result (LacksOwn P.rules self.new.seat.now size) }
@@ -184,12 +190,15 @@ impl<P: Plan> Racing<'_, '_, P> {
         requires rooms { HasRooms P.rules self.old.seat.now }
         requires least { HEADER_WORDS ≤ size }
         requires most { size ≤ MAX_MEDIUM_WORDS }
+        requires full { LacksRegionRoom P.rules self.old.seat.now size }
         ensures ready { IsReady P.rules self.new }
         ensures rooms { HasRooms P.rules self.new.seat.now }
         ensures takes { TakesNothing P.rules self.old self.new }
         ensures ticket { (local self.new).ticket ≡ (local self.old).ticket }
         ensures found { IfSome result (λ k.
             HasFound P.rules self.new (class_for P.rules.fill size) k size) }
+        ensures region { IfSome result (λ k.
+            FindsRegion P.rules self.old.seat.now size k self.new.seat.now) }
         ensures regions { IfNone result (
             regions_at self.new.seat.now ≡ regions_at self.old.seat.now) }
         ensures lacks { IfNone result (LacksOwn P.rules self.new.seat.now size) }

@@ -5,14 +5,17 @@
 ghost use Rattle.std.specs.Prelude.{◌≡◌, ◌≢◌, ◌+◌, ◌-◌, ◌/◌, ◌%◌, ◌^◌, ◌<◌, ◌≤◌, ℕ, true};
 ghost use Rattle.heap_layout.specs.Zones.{heap_of, PinBits, UnlogBits};
 ghost use Rattle.side_meta.specs.BitWords.{has_bit};
-ghost use Rattle.racing_mutator.specs.RacingSeats.{IsReady, IsBitOf, HasShape, HasName, MayStoreUnlogged, IsAged, IsMarked, HasStop, DoesEffect, OnlyLoads, address};
+ghost use Rattle.mutator_calls.specs.Stopping.{stop_of};
+ghost use Rattle.mutator_core.specs.declared.state.Event.TheVariants as event;
+ghost use Rattle.mutator_rule.specs.Logs.{MakesStep};
+ghost use Rattle.racing_mutator.specs.RacingSeats.{IsReady, IsBitOf, HasShape, HasName, MayStoreUnlogged, IsAged, IsMarked, HasStop, DoesEffect, OnlyLoads, address, view};
 ghost use Rattle.racing_mutator.specs.SeatLaws.{loads-nothing, loads-twice, does-both, loads-do-nothing, loads-registers, loads-ages, loads-marks, shape-some};
 
 use crate::plan_rules::PlanRules;
 use bitflags::Flags;
 use heap_layout::{STOP_WORD, block_of};
 use ideal_heap::{Command, Name, REGISTERS};
-use mutator_calls::MutatorSteps;
+use mutator_calls::{MutatorSteps, Polled};
 use mutator_core::Event;
 use mutator_rule::{MutatorSeat, RacingRow};
 use object_model::{COLLECTOR_OFFSET, HEADER_WORDS, NUMS_UNIT, SHAPE_OFFSET, Shape};
@@ -86,6 +89,31 @@ impl<P: Plan> Racing<'_, '_, P> {
         ensures { result ≡ address self.now s + HEADER_WORDS + shape.now.refs + j }
     {
         self.register(s) as usize + HEADER_WORDS as usize + shape.refs as usize + j as usize
+    }
+
+    /// Loads the stop word: the number of the mutator that raised a stop, or 0.
+    fn stop_word(&mut self) -> u32
+        requires { IsReady P.rules self.old }
+        ensures ready { IsReady P.rules self.new }
+        ensures looks { OnlyLoads P.rules self.old self.new }
+        ensures step { MakesStep P.rules (view self.old) event.Poll result (view self.new) }
+    {
+        self.row.look(self.seat, STOP_WORD, &Event::Poll) as u32
+    }
+
+    /// Whether a stop is raised, and by which mutator: one load of the stop word.
+    pub fn poll(&mut self) -> Polled
+        requires { IsReady P.rules self.old }
+        ensures ready { IsReady P.rules self.new }
+        ensures looks { OnlyLoads P.rules self.old self.new }
+        ensures step { MakesStep P.rules (view self.old) event.Poll (stop_of result)
+            (view self.new) }
+        ensures raised { (m : ℕ) → result ≡ Polled.Raised m → m ≢ 0 }
+    {
+        match self.stop_word() {
+            0 => Polled::Go,
+            mutator => Polled::Raised(mutator),
+        }
     }
 }
 
@@ -300,7 +328,7 @@ impl<P: Plan> MutatorSteps for Racing<'_, '_, P> {
     }
 
     fn load_stop(&mut self) -> u32 {
-        self.row.look(self.seat, STOP_WORD, &Event::Poll) as u32
+        self.stop_word()
     }
 
     fn raise_stop(&mut self) {

@@ -26,6 +26,7 @@ ghost use Rattle.plan_api.specs.Cursors.{RegionHasRoom};
 ghost use Rattle.local_allocators.specs.MutatorRegions.{KeepsHole, cursors_of};
 ghost use Rattle.racing_rooms.specs.NoRoom.{regions_at, LacksRegionRoom};
 ghost use Rattle.racing_mutator.specs.Searches.{block_in, HasFound, HasWritten, IsWrittenAt, NotesOwn, KeepsBlocks, PlacesObject, Searches};
+ghost use Rattle.racing_mutator.specs.Regions.{FillsFront, FillsRegion};
 
 use crate::racing::Racing;
 use block_regions::BlockNote;
@@ -102,6 +103,8 @@ impl<P: Plan> Racing<'_, '_, P> {
         ensures placed { PlacesObject P.rules self.old.seat.now d
             (size_of shape.now.refs shape.now.nums) self.new.seat.now }
         ensures here { block_in P.rules self.new.seat.now d ≡ block }
+        ensures front { FillsFront P.rules self.old.seat.now block d
+            (size_of shape.now.refs shape.now.nums) self.new.seat.now }
         ensures hole { (RegionHasRoom (cursors_of (regions_at self.old.seat.now)).hole
             (size_of shape.now.refs shape.now.nums) → ⊥)
             → KeepsHole (regions_at self.old.seat.now) (regions_at self.new.seat.now) }
@@ -160,6 +163,8 @@ impl<P: Plan> Racing<'_, '_, P> {
         ensures placed { PlacesObject P.rules self.old.seat.now d
             (size_of shape.now.refs shape.now.nums) self.new.seat.now }
         ensures here { block_in P.rules self.new.seat.now d ≡ block }
+        ensures front { FillsFront P.rules self.old.seat.now block d
+            (size_of shape.now.refs shape.now.nums) self.new.seat.now }
         ensures hole { (RegionHasRoom (cursors_of (regions_at self.old.seat.now)).hole
             (size_of shape.now.refs shape.now.nums) → ⊥)
             → KeepsHole (regions_at self.old.seat.now) (regions_at self.new.seat.now) }
@@ -193,6 +198,9 @@ impl<P: Plan> Racing<'_, '_, P> {
         ensures placed { IfSome result (λ name. PlacesObject P.rules self.old.seat.now d
             (size_of shape.now.refs shape.now.nums) self.new.seat.now) }
         ensures kept { IfSome result (λ name. KeepsBlocks self.old.seat.now self.new.seat.now) }
+        ensures region { IfSome result (λ name. FillsRegion P.rules self.old.seat.now
+            (block_in P.rules self.new.seat.now d) d (size_of shape.now.refs shape.now.nums)
+            self.new.seat.now) }
         ensures hole { IfSome result (λ name.
             (RegionHasRoom (cursors_of (regions_at self.old.seat.now)).hole
             (size_of shape.now.refs shape.now.nums) → ⊥)
@@ -240,6 +248,8 @@ impl<P: Plan> Racing<'_, '_, P> {
         ensures placed { PlacesObject P.rules self.old.seat.now d
             (size_of shape.now.refs shape.now.nums) self.new.seat.now }
         ensures here { block_in P.rules self.new.seat.now d ≡ block }
+        ensures front { FillsFront P.rules self.old.seat.now block d
+            (size_of shape.now.refs shape.now.nums) self.new.seat.now }
         ensures hole { (RegionHasRoom (cursors_of (regions_at self.old.seat.now)).hole
             (size_of shape.now.refs shape.now.nums) → ⊥)
             → KeepsHole (regions_at self.old.seat.now) (regions_at self.new.seat.now) }
@@ -296,6 +306,8 @@ impl<P: Plan> Racing<'_, '_, P> {
         ensures placed { PlacesObject P.rules self.old.seat.now d
             (size_of shape.now.refs shape.now.nums) self.new.seat.now }
         ensures here { block_in P.rules self.new.seat.now d ≡ block }
+        ensures front { FillsFront P.rules self.old.seat.now block d
+            (size_of shape.now.refs shape.now.nums) self.new.seat.now }
         ensures hole { (RegionHasRoom (cursors_of (regions_at self.old.seat.now)).hole
             (size_of shape.now.refs shape.now.nums) → ⊥)
             → KeepsHole (regions_at self.old.seat.now) (regions_at self.new.seat.now) }

@@ -14,6 +14,7 @@ ghost use Rattle.racing_mutator.specs.RacingSeats.{IsReady, local, holdings, epo
 ghost use Rattle.racing_rooms.specs.Rooms.{HasRooms, UsesItsBlocks, UsesOthers};
 ghost use Rattle.racing_rooms.specs.NoRoom.{regions_at, LacksFreeBelow, LacksRegionRoom, HasNoRoom, IsCauseFor};
 ghost use Rattle.racing_mutator.specs.Searches.{HasFound, Searches, TakesNothing, TakesFree, TakesOneHole, TakesRoom, KeepsHoleRegion, Allocates, Needs};
+ghost use Rattle.racing_mutator.specs.Regions.{FindsRegion};
 
 use crate::racing::Racing;
 use heap_layout::{CLASS_UNIT, Kind};
@@ -92,6 +93,8 @@ impl<P: Plan> Racing<'_, '_, P> {
             → UsesOthers (epoch_of_racing P.rules self.old) (holdings (local self.new)) block }
         ensures takes { result ≡ true → TakesFree P.rules self.old self.new block
             (class_for P.rules.fill size) }
+        ensures region { result ≡ true
+            → FindsRegion P.rules self.old.seat.now size block self.new.seat.now }
         ensures hole { result ≡ true → Overflows P.rules.fill (regions_at self.old.seat.now) size
             → KeepsHole (regions_at self.old.seat.now) (regions_at self.new.seat.now) }
         ensures regions { result ≡ false
@@ -129,6 +132,7 @@ impl<P: Plan> Racing<'_, '_, P> {
         ensures searches { Searches P.rules self.old self.new }
         ensures found { HasFound P.rules self.new (class_for P.rules.fill size) result size }
         ensures takes { TakesFree P.rules self.old self.new result (class_for P.rules.fill size) }
+        ensures region { FindsRegion P.rules self.old.seat.now size result self.new.seat.now }
         ensures lowest { LacksFreeBelow P.rules self.new.seat.now result }
         ensures hole { Overflows P.rules.fill (regions_at self.old.seat.now) size
             → KeepsHole (regions_at self.old.seat.now) (regions_at self.new.seat.now) }
@@ -160,6 +164,8 @@ impl<P: Plan> Racing<'_, '_, P> {
             → UsesOthers (epoch_of_racing P.rules self.old) (holdings (local self.new)) k) }
         ensures takes { IfOk result (λ k. TakesFree P.rules self.old self.new k
             (class_for P.rules.fill size)) }
+        ensures region { IfOk result (λ k.
+            FindsRegion P.rules self.old.seat.now size k self.new.seat.now) }
         ensures lowest { IfOk result (λ k. LacksFreeBelow P.rules self.new.seat.now k) }
         ensures hole { IfOk result (λ k. Overflows P.rules.fill (regions_at self.old.seat.now) size
             → KeepsHole (regions_at self.old.seat.now) (regions_at self.new.seat.now)) }
@@ -195,6 +201,8 @@ impl<P: Plan> Racing<'_, '_, P> {
             UsesItsBlocks (epoch_of_racing P.rules self.old) (holdings (local self.old))
             → UsesOthers (epoch_of_racing P.rules self.old) (holdings (local self.new)) k) }
         ensures takes { IfSome result (λ k. TakesOneHole P.rules self.old self.new k size) }
+        ensures region { IfSome result (λ k.
+            FindsRegion P.rules self.old.seat.now size k self.new.seat.now) }
         ensures nothing { IfNone result (TakesNothing P.rules self.old self.new) }
         ensures regions { IfNone result (
             regions_at self.new.seat.now ≡ regions_at self.old.seat.now) }
@@ -226,6 +234,8 @@ impl<P: Plan> Racing<'_, '_, P> {
             → UsesOthers (epoch_of_racing P.rules self.old) (holdings (local self.new)) k) }
         ensures takes { IfOk result (λ k.
             TakesRoom P.rules self.old.seat.now size k self.new.seat.now) }
+        ensures region { IfOk result (λ k.
+            FindsRegion P.rules self.old.seat.now size k self.new.seat.now) }
         ensures overflow { IfOk result (λ k.
             KeepsHoleRegion P.rules self.old.seat.now size self.new.seat.now) }
         ensures nothing { IfErr result (λ t. TakesNothing P.rules self.old self.new) }
@@ -263,6 +273,8 @@ impl<P: Plan> Racing<'_, '_, P> {
             → UsesOthers (epoch_of_racing P.rules self.old) (holdings (local self.new)) k) }
         ensures takes { IfOk result (λ k.
             TakesRoom P.rules self.old.seat.now size k self.new.seat.now) }
+        ensures region { IfOk result (λ k.
+            FindsRegion P.rules self.old.seat.now size k self.new.seat.now) }
         ensures overflow { IfOk result (λ k.
             KeepsHoleRegion P.rules self.old.seat.now size self.new.seat.now) }
         ensures nothing { IfErr result (λ t. TakesNothing P.rules self.old self.new) }

@@ -1,18 +1,17 @@
 -- That no hole of a block is lost before the region of its mutator.
-use Rattle.std.proofs.Common.{◌≡◌, ◌≢◌, refl, sym, ◌∙◌, ap, subst, ℕ, ◌+◌, ◌*◌, ◌<◌, ◌≤◌, ◌⊎◌, inl, inr, arith, mul-le-mul_right, Bool, true, false, IsTrue, List, ◌∷◌}
+use Rattle.std.proofs.Common.{◌≡◌, ◌≢◌, refl, sym, ◌∙◌, ap, subst, ℕ, ◌+◌, ◌*◌, ◌<◌, ◌≤◌, ◌⊎◌, inl, inr, arith, mul-le-mul_right, true, false, List, ◌∷◌}
 use Rattle.std.specs.Prelude.{Some, max}
-use Rattle.std.specs.List.{Contains}
 use Rattle.std.proofs.lemmas.Bool.{cases_Bool, cases_lt, cases_eq, true≢false}
-use Rattle.heap_layout.specs.Zones.{block_at, block_start, IsAddress, row_words, heap_of}
+use Rattle.heap_layout.specs.Zones.{block_at, block_start}
 use Rattle.heap_layout.specs.declared.block.Kind.{Kind}
 use Rattle.heap_layout.specs.declared.block.Kind.TheVariants as kinds
 use Rattle.heap_layout.specs.declared.region.Region.{Region}
-use Rattle.object_model.specs.Objects.{HeapState, HasKind, cell_words, class_at, is_start, IsHeld}
-use Rattle.sessions.specs.Fitting.{IsLineHole, IsFreeCell, class_of}
+use Rattle.object_model.specs.Objects.{HeapState, HasKind, cell_words, class_at, is_start}
+use Rattle.sessions.specs.Fitting.{IsLineHole}
 use Rattle.sessions.proofs.Holes.{class-room}
 use Rattle.plan_api.specs.Holes.{IsTailPart, IsLinePart, IsCellPart, IsHolePart, HasRoomFrom, IsFirstPart}
 use Rattle.block_regions.specs.Notes.{FillsTails}
-use Rattle.block_regions.specs.Regions.{first_region, HasObjectEndingAt}
+use Rattle.block_regions.specs.Regions.{first_region}
 use Rattle.block_regions.proofs.Regions.{no-cells, no-lines}
 use Rattle.mutator_core.specs.declared.state.Extent.{Extent}
 use Rattle.mutator_core.specs.Machine.{Epoch}

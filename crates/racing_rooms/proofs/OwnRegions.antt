@@ -3,20 +3,17 @@ use Rattle.std.proofs.Common.{◌≡◌, ◌≢◌, refl, sym, ◌∙◌, ap, su
 use Rattle.std.specs.Prelude.{Some, max}
 use Rattle.std.specs.List.{Contains}
 use Rattle.std.proofs.lemmas.Bool.{cases_eq, cases_lt}
-use Rattle.heap_layout.specs.Zones.{block_at, block_start, offset_at, heap_of, IsAddress}
+use Rattle.heap_layout.specs.Zones.{block_at, block_start, offset_at, IsAddress}
 use Rattle.heap_layout.specs.declared.block.Kind.{Kind}
 use Rattle.heap_layout.specs.declared.block.Kind.TheVariants as kinds
 use Rattle.heap_layout.specs.declared.region.Region.{Region}
 use Rattle.object_model.specs.Objects.{HeapState, HasKind, size_of, cell_words, class_at, lines_for}
-use Rattle.sessions.specs.Fitting.{HasHole, LiesInHole, HasLineHole, IsLineHole, IsFreeCell, IsTail, class_of, class_for}
-use Rattle.plan_api.specs.Holes.{IsTailPart, IsLinePart, IsCellPart, IsHolePart, HasRoomFrom, IsFirstPart}
-use Rattle.sessions.proofs.HoleKinds.{part-lies, lies-within}
-use Rattle.sessions.proofs.Holes.{hole-start, class-room}
+use Rattle.sessions.specs.Fitting.{HasHole, LiesInHole, HasLineHole, IsLineHole, IsTail, class_of}
+use Rattle.plan_api.specs.Holes.{IsTailPart, IsLinePart, IsCellPart, IsHolePart, IsFirstPart}
+use Rattle.sessions.proofs.HoleKinds.{part-lies}
 use Rattle.block_regions.specs.Regions.{first_region}
-use Rattle.block_regions.proofs.FilledKinds.{class-few}
-use Rattle.block_regions.proofs.Regions.{most-cell, first-hole, no-lines}
+use Rattle.block_regions.proofs.Regions.{most-cell, no-lines}
 use Rattle.mutator_core.specs.declared.state.Extent.{Extent}
-use Rattle.mutator_core.specs.declared.state.Local.{Local}
 use Rattle.mutator_core.specs.declared.state.OwnedBlock.{OwnedBlock}
 use Rattle.mutator_core.specs.Machine.{Epoch, nothing_unpublished}
 use Rattle.mutator_core.specs.Guards.{MayBegin, BeginsRegion, IsAvailable, IsCell}

@@ -1,11 +1,11 @@
 -- What a mutator knows of the words of its own blocks.
-use Rattle.std.proofs.Common.{◌≡◌, ◌≢◌, refl, sym, ◌∙◌, ap, subst, ℕ, ◌+◌, ◌*◌, ◌-◌, ◌/◌, ◌%◌, ◌<◌, ◌≤◌, ◌⊎◌, inl, inr, arith, Bool, true, false, IsTrue, List, ◌∷◌, slice_index, nat_eq, eq-eqb}
+use Rattle.std.proofs.Common.{◌≡◌, ◌≢◌, refl, sym, ◌∙◌, ap, subst, ℕ, ◌+◌, ◌*◌, ◌-◌, ◌/◌, ◌%◌, ◌<◌, ◌≤◌, ◌⊎◌, inl, inr, arith, true, false, IsTrue, List, slice_index, eq-eqb}
 use Rattle.std.specs.Prelude.{Some}
 use Rattle.std.specs.List.{Contains}
 use Rattle.std.specs.Int.{bit_at}
 use Rattle.std.proofs.lemmas.Bool.{cases_Bool, cases_lt, eqb-true, true≢false}
 use Rattle.side_meta.specs.BitWords.{has_bit}
-use Rattle.heap_layout.specs.Zones.{StartBits, LineWords, InZone, IsAddress, first, heap_of, row_words, block_at, offset_at, block_start}
+use Rattle.heap_layout.specs.Zones.{StartBits, LineWords, InZone, IsAddress, first, heap_of, block_at, offset_at, block_start}
 use Rattle.heap_layout.specs.declared.block.Kind.{Kind}
 use Rattle.heap_layout.specs.declared.block.Kind.TheVariants as kinds
 use Rattle.heap_layout.specs.declared.region.Region.{Region}
@@ -21,7 +21,6 @@ use Rattle.block_regions.specs.Notes.{FillsTails}
 use Rattle.mutator_core.specs.declared.state.Extent.{Extent}
 use Rattle.mutator_core.specs.declared.state.Loaded.{Loaded}
 use Rattle.mutator_core.specs.declared.state.Local.{Local}
-use Rattle.mutator_core.specs.declared.state.OwnedBlock.{OwnedBlock}
 use Rattle.mutator_core.specs.Machine.{Epoch}
 use Rattle.mutator_core.specs.Guards.{HasSeenStart}
 use Rattle.mutator_core.specs.Epochs.{IsInEpoch, IsOwned, IsMade}

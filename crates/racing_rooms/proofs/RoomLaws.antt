@@ -1,5 +1,5 @@
 -- What a mutator lacks it lacks still: blocks that nobody owns, and its own, stay as they are while others step.
-use Rattle.std.proofs.Common.{◌≡◌, ◌≢◌, refl, sym, ◌∙◌, ap, subst, ℕ, ◌+◌, ◌/◌, ◌%◌, ◌<◌, ◌≤◌, ◌⊎◌, inl, inr, arith, List, [], ◌∷◌, ◌++◌, Option}
+use Rattle.std.proofs.Common.{◌≡◌, refl, sym, ◌∙◌, ap, subst, ℕ, ◌+◌, ◌/◌, ◌%◌, ◌<◌, ◌≤◌, inl, inr, arith, List, ◌++◌, Option}
 use Rattle.std.specs.Prelude.{Some}
 use Rattle.std.specs.List.{Contains}
 use Rattle.std.proofs.lemmas.Bool.{cases_eq}
@@ -7,14 +7,13 @@ use Rattle.heap_layout.specs.Zones.{block_at}
 use Rattle.heap_layout.specs.Blocks.{code_of}
 use Rattle.heap_layout.specs.declared.block.Kind.TheVariants as kinds
 use Rattle.ideal_heap.specs.Ideal.{IdealHeap}
-use Rattle.ideal_heap.specs.Runs.{Entry}
 use Rattle.object_model.specs.Objects.{HeapState, block_word, owner_at, IsHeld, size_at, size_of, HasKind}
 use Rattle.sessions.specs.Fitting.{HasHole}
 use Rattle.sessions.specs.Plans.{Rules}
 use Rattle.block_regions.proofs.BlockFrames.{SameBlock, SameLines}
 use Rattle.block_regions.proofs.RegionFrames.{hole-as, kind-as, turn-round}
 use Rattle.plan_api.specs.Holes.{HasRoomFrom}
-use Rattle.local_allocators.specs.MutatorRegions.{MutatorRegions, FillsLines, LacksBlock, LacksLines, LacksRegions, cursors_of}
+use Rattle.local_allocators.specs.MutatorRegions.{MutatorRegions, FillsLines, LacksBlock, cursors_of}
 use Rattle.local_allocators.proofs.LineLacks.{part-back}
 use Rattle.mutator_core.specs.declared.state.Extent.{Extent}
 use Rattle.mutator_core.specs.declared.state.Local.{Local}
@@ -27,9 +26,8 @@ use Rattle.mutator_core.proofs.Fills.{owned-owner}
 use Rattle.mutator_core.proofs.Places.{place-owner, unowned-word}
 use Rattle.mutator_core.proofs.Regions.{log-front, stays-later, owner-lists}
 use Rattle.mutator_rule.specs.declared.views.EpochStart.{EpochStart}
-use Rattle.mutator_rule.specs.declared.views.MutatorView.{MutatorView}
 use Rattle.mutator_rule.specs.Views.{epoch_with}
-use Rattle.mutator_rule.specs.Logs.{KnowsLog, MakesEntries}
+use Rattle.mutator_rule.specs.Logs.{KnowsLog}
 use Rattle.mutator_rule.proofs.Moments as moments
 use mathlib.Core.List.{IsPrefix}
 use Rattle.std.specs.Prelude.{slice_get, unwrap_or, None}
@@ -43,7 +41,7 @@ use Rattle.mutator_core.specs.Guards.{allowance}
 use Rattle.mutator_core.proofs.Fills.{owned-kind}
 use Rattle.mutator_rule.specs.declared.seat.MutatorSeat.{MutatorSeat}
 use Rattle.mutator_rule.specs.Seats.{known, local_of, epoch_of_seat}
-use Rattle.racing_rooms.specs.Rooms.{HasRooms, heap_seen_by, Holdings, holdings}
+use Rattle.racing_rooms.specs.Rooms.{HasRooms, heap_seen_by}
 use Rattle.racing_rooms.specs.NoRoom.{regions_at, LacksUnownedBelow, LacksUnowned, LacksFreeBelow, LacksOwn, LacksRegionRoom, LacksTriedRegions, HasNoRoom, IsCauseFor}
 use Rattle.object_model.proofs.OneKind.{kind-code, kind-within}
 use Rattle.sessions.proofs.HoleRooms.{hole-kind}

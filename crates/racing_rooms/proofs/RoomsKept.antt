@@ -1,9 +1,5 @@
 -- Notes of rooms stay right: while others step, and as one note changes.
-use Rattle.std.proofs.Common.{◌≡◌, ◌≢◌, refl, sym, ◌∙◌, ap, subst, ℕ, ◌+◌, ◌/◌, ◌<◌, ◌≤◌, ◌⊎◌, inl, inr, arith, Option, List, [], ◌∷◌, ◌++◌, length, slice_get}
-use Rattle.std.specs.Prelude.{Some, None, slice_set}
-use Rattle.std.specs.List.{Contains}
-use Rattle.std.proofs.lemmas.Bool.{cases_eq}
-use Rattle.heap_layout.specs.declared.region.Region.{Region}
+use Rattle.std.proofs.Common.{◌≡◌, sym, subst, ℕ, ◌+◌, ◌/◌, ◌<◌, ◌≤◌, ◌⊎◌, inl, inr, List, [], ◌∷◌, ◌++◌}
 use Rattle.ideal_heap.specs.Ideal.{IdealHeap}
 use Rattle.ideal_heap.specs.Runs.{Entry}
 use Rattle.object_model.specs.Objects.{HeapState, owner_at}
@@ -25,13 +21,11 @@ use Rattle.mutator_rule.specs.declared.seat_notes.SeatNotes.{SeatNotes}
 use Rattle.mutator_rule.specs.Views.{epoch_with}
 use Rattle.mutator_rule.specs.Logs.{KnowsLog, MakesEntries}
 use Rattle.mutator_rule.specs.Seats.{known, local_of}
-use Rattle.block_regions.specs.Elements.{ChangesAt}
-use Rattle.block_regions.proofs.Elements.{set-changes, changes-cases, set-here, set-other}
-use Rattle.block_regions.proofs.Lists.{one-element, get-below}
+use Rattle.block_regions.proofs.Lists.{get-below}
 use Rattle.block_regions.specs.declared.block_notes.BlockNote.{BlockNote}
-use Rattle.block_regions.specs.declared.block_notes.BlockNote.TheVariants.{Unowned, Owned}
+use Rattle.block_regions.specs.declared.block_notes.BlockNote.TheVariants.{Unowned}
 use Rattle.local_allocators.specs.declared.local_seat.LocalSeat.{LocalSeat}
-use Rattle.racing_rooms.specs.Rooms.{Holdings, holdings, HasRoomsIn, HasRooms, KeepsRooms, AllocatesIn, IsOwnRegion}
+use Rattle.racing_rooms.specs.Rooms.{Holdings, holdings, HasRoomsIn, HasRooms, KeepsRooms}
 
 -- a block that has an owner keeps it
 log-owners : (p : Epoch) → EpochMayBegin p → (log : List LogEntry) (h : Machine) (i : IdealHeap) (set : ℕ → Type 0) → Holds p h i set → IsLog p h log

@@ -1,5 +1,5 @@
 -- Notes of rooms as a mutator changes one: it allocates in a region, takes a block, or draws a ticket.
-use Rattle.std.proofs.Common.{◌≡◌, ◌≢◌, refl, sym, ◌∙◌, ap, subst, ℕ, ◌+◌, ◌<◌, ◌≤◌, ◌⊎◌, inl, inr, ⊎_elim, arith, Option, List, ◌∷◌, length, length-set, slice_get}
+use Rattle.std.proofs.Common.{◌≡◌, ◌≢◌, refl, sym, ◌∙◌, ap, subst, ℕ, ◌<◌, ◌≤◌, ◌⊎◌, inl, inr, ⊎_elim, arith, Option, List, ◌∷◌, length, length-set, slice_get}
 use Rattle.std.specs.Prelude.{Some, None, slice_set, unwrap_or}
 use Rattle.std.specs.List.{Contains}
 use Rattle.std.proofs.lemmas.Bool.{cases_eq}
@@ -15,7 +15,7 @@ use Rattle.block_regions.proofs.Lists.{one-element, get-below}
 use Rattle.block_regions.specs.declared.block_notes.BlockNote.{BlockNote}
 use Rattle.block_regions.specs.declared.block_notes.BlockNote.TheVariants.{Unowned, Owned}
 use Rattle.local_allocators.specs.declared.local_seat.LocalSeat.{LocalSeat}
-use Rattle.local_allocators.specs.MutatorRegions.{FillsLines, GoesOver, IsBlockFor, cursors_of}
+use Rattle.local_allocators.specs.MutatorRegions.{FillsLines, IsBlockFor, cursors_of}
 use Rattle.local_allocators.specs.NotedRegions.{region_of, region_noted}
 use Rattle.local_allocators.specs.Seats.{block_of}
 use Rattle.local_allocators.proofs.BlockReads.{block-there, option-read}

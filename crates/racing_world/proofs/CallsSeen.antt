@@ -15,6 +15,7 @@ use Rattle.mutator_calls.specs.Effects.{Effect}
 use Rattle.mutator_core.specs.Machine.{Epoch, first_machine}
 use Rattle.mutator_core.specs.Histories.{history}
 use Rattle.mutator_core.specs.declared.state.Local.{Local}
+use Rattle.mutator_core.specs.declared.state.Event.TheVariants as event
 use Rattle.mutator_core.specs.Logs.{machine_after, heap_after, local_after_log, history_of}
 use Rattle.mutator_core.proofs.EpochEnds.{log-seen}
 use Rattle.mutator_core.proofs.Beginnings.{log-ends}
@@ -22,7 +23,7 @@ use Rattle.mutator_core.proofs.Regions.{history-append}
 use Rattle.mutator_rule.specs.declared.views.EpochStart.{EpochStart}
 use Rattle.mutator_rule.specs.declared.views.MutatorView.{MutatorView}
 use Rattle.mutator_rule.specs.Views.{epoch_with, entries_by}
-use Rattle.mutator_rule.specs.Logs.{MakesEntries, history_seen, own_entries}
+use Rattle.mutator_rule.specs.Logs.{MakesEntries, MakesStep, history_seen, own_entries}
 use Rattle.mutator_rule.specs.Seats.{start_of}
 use Rattle.racing_mutator.specs.declared.racing.Racing.{Racing}
 use Rattle.racing_world.specs.declared.world.World.{World}
@@ -152,6 +153,10 @@ module _ {P : Type 0} (rules : Rules) (w : World P) (a b : Racing P) (here : a.r
 
   pub enters-nothing : Makes rules a [] b → holdings (local b) ≡ holdings (local a) → KeepsRooms a.seat.now.notes b.seat.now.notes → EntersNothing rules w a.seat.now b.seat.now
   enters-nothing made same keeps = enters-none rules w a b here ready has made (uses-kept rules (view a) (view b) made.goes.start same uses) (rooms-kept rules a.seat.now b.seat.now [] made.goes ready.own.2 same keeps rooms)
+
+-- the stop word that a load found is the one that the seat has seen
+pub stop-found : (rules : Rules) (a b : MutatorView) (n : ℕ) → MakesStep rules a event.Poll n b → b.local.stop ≡ n
+stop-found rules a b n st = ap (λ (l : Local). l.stop) st.local
 
 -- a stop that a seat has seen was raised by a mutator of the world, which is the caller only if it tried to
 module _ {P : Type 0} (rules : Rules) (w : World P) (b : Racing P) (here : b.row.now ≡ w.row) (ready : IsReady rules b) (m : ℕ) (stop : (local b).stop ≡ m) (some : m ≢ 0) where

@@ -49,6 +49,7 @@ use Rattle.racing_mutator.specs.Logged.{logged_in}
 use Rattle.racing_mutator.specs.RacingSeats.{logged_at, holdings, UsesItsBlocks}
 use Rattle.racing_mutator.proofs.Logged.{logged-append, none-logged}
 use Rattle.racing_world.proofs.Cleared.{log-logged}
+use Rattle.racing_world.proofs.TicketsDrawn.{drawn-below}
 use Rattle.racing_world.specs.Closing.{IsSeatAt, EndsEpoch}
 
 -- a seat is between two calls in the epoch
@@ -279,6 +280,8 @@ module _ (rules : Rules) (g : EpochStart) (seats : List MutatorSeat) (row : List
           budget_word = front 1 (omega arith);
           most = budget-most;
           drawn = λ k t seat at has. counted.drawn (number_of seat) t (ap (λ (l : Local). l.ticket) (sym (local-same k seat at)) ∙ has);
+          tickets = λ k t seat at has. subst (λ (n : ℕ). n < budget) has.word
+              (drawn-below p ends.ideal log (known seat).seen has.before has.step ends.epoch (agrees k seat at).1.prefix has.seen has.draws);
           counted = tickets-counted ∙ ap (λ n. n + smaller budget (allowance p)) (sym free-same);
           seen = λ k block seat at has free.
               let among : Contains (local_after_log p log (number_of seat)).blocks has.loaded = subst (λ (l : Local). Contains l.blocks has.loaded) (local-same k seat at) has.among in

@@ -1,6 +1,7 @@
 pub mod CallsSeen
 pub mod CausesStay
 pub mod GivenBack
+pub mod TicketsDrawn
 pub mod Closed
 pub mod RoomLeft
 pub mod Begun

@@ -41,6 +41,7 @@ module _ {P : Type 0} (rules : Rules) (a b : Racing P) (d refs nums : ℕ) where
     small = is.small;
     place = is.place;
     takes = is.takes;
+    region = is.region;
     overflow = is.overflow;
   }
   answers-new w here ready has rooms uses (Stop need) is = record {

@@ -15,6 +15,7 @@ use Rattle.mutator_rule.specs.Seats.{local_of}
 use Rattle.racing_world.specs.declared.world.World.{World}
 use Rattle.racing_rooms.specs.NoRoom.{regions_at, IsCauseFor}
 use Rattle.racing_mutator.specs.Searches.{PlacesObject, TakesRoom, block_in, KeepsHoleRegion}
+use Rattle.racing_mutator.specs.Regions.{FillsRegion}
 use Rattle.racing_world.specs.Calls.{EntersOnce, EntersNothing, has_raised}
 
 -- how many objects the mutator has allocated
@@ -31,6 +32,7 @@ module _ {P : Type 0} where
     pub small : size_of refs nums ≤ MAX_MEDIUM_WORDS
     pub place : PlacesObject rules old d (size_of refs nums) new
     pub takes : TakesRoom rules old (size_of refs nums) (block_in rules new d) new
+    pub region : FillsRegion rules old (block_in rules new d) d (size_of refs nums) new
     pub overflow : KeepsHoleRegion rules old (size_of refs nums) new
 
   -- No object was allocated: the mutator is to stop with this need. The object is large, or there

@@ -7,10 +7,11 @@ use Rattle.ideal_heap.specs.declared.command.Command.{Command}
 use Rattle.ideal_heap.specs.declared.reply.Reply.{Reply}
 use Rattle.object_model.specs.Graphs.{Represents}
 use Rattle.sessions.specs.Plans.{Rules}
+use Rattle.mutator_core.specs.declared.state.Event.TheVariants as event
 use Rattle.mutator_core.specs.Machine.{Epoch}
 use Rattle.mutator_rule.specs.declared.seat.MutatorSeat.{MutatorSeat}
 use Rattle.mutator_rule.specs.Views.{epoch_with, entries_by}
-use Rattle.mutator_rule.specs.Logs.{history_seen, own_entries}
+use Rattle.mutator_rule.specs.Logs.{MakesStep, history_seen, own_entries}
 use Rattle.mutator_rule.specs.Seats.{known, local_of, start_of}
 use Rattle.racing_world.specs.declared.world.World.{World}
 use Rattle.racing_mutator.specs.RacingSeats.{MayCall, holdings}
@@ -34,6 +35,10 @@ stop_seen seat = (local_of seat).stop
 abbrev pub has_raised : MutatorSeat → Bool
 has_raised seat = (local_of seat).raised
 
+-- The call made one step: a load of the stop word, which found this number.
+abbrev pub LoadsStop : Rules → MutatorSeat → ℕ → MutatorSeat → Type 0
+LoadsStop rules old found new = MakesStep rules (known old) event.Poll found (known new)
+
 -- The seat as its epoch begins: it has seen no step of anyone, so it has no call, ticket or stop,
 -- tried to raise none, and has no flag set.
 pub record IsFresh (rules : Rules) (seat : MutatorSeat) : Type 0 where
@@ -50,8 +55,9 @@ module _ {P : Type 0} where
   abbrev pub epoch_of_world : Rules → World P → Epoch
   epoch_of_world rules w = epoch_with rules (start_of w.row)
 
-  -- The seat has seen more steps, and so more of the one history. What it has seen is a run from every ideal heap that
-  -- heap and mutators represented as the epoch began. A stop that it has seen stands.
+  -- The seat has seen more steps, and so more of the one history. What it has seen is a run from
+  -- every ideal heap that heap and mutators represented as the epoch began. A stop that it has seen
+  -- stands.
   pub record SeesMore (rules : Rules) (w : World P) (old : MutatorSeat) (since : List Entry)
       (new : MutatorSeat) : Type 0 where
     pub call : MayCall rules w.row new

@@ -1,5 +1,5 @@
 -- The end of a world.
-use Rattle.std.specs.Prelude.{◌≡◌, ℕ, ◌+◌, ◌<◌, ◌≤◌, ◌⊎◌, true, IsTrue, Some, List, length, map, sum_by}
+use Rattle.std.specs.Prelude.{◌≡◌, ℕ, ◌+◌, ◌<◌, ◌≤◌, ◌⊎◌, true, IsTrue, Some, List, [], ◌∷◌, ◌++◌, length, map, sum_by}
 use Rattle.std.specs.List.{Contains}
 use mathlib.Core.List.{IsPrefix}
 use mathlib.Core.Option.{some}
@@ -14,13 +14,16 @@ use Rattle.sessions.specs.Fitting.{free_of}
 use Rattle.sessions.specs.Plans.{Rules}
 use Rattle.sessions.specs.Collecting.{is_logged_under}
 use Rattle.sessions.specs.Sessions.{Stopped}
+use Rattle.mutator_core.specs.declared.state.Event.TheVariants as event
+use Rattle.mutator_core.specs.declared.state.LogEntry.{LogEntry}
 use Rattle.mutator_core.specs.Machine.{Epoch, mutator_of}
 use Rattle.mutator_core.specs.Guards.{allowance}
+use Rattle.mutator_core.specs.Logs.{heap_after}
 use Rattle.mutator_core.specs.Seen.{HasSeenUsed}
 use Rattle.mutator_core.specs.Tickets.{smaller, tickets_below}
 use Rattle.mutator_rule.specs.declared.seat.MutatorSeat.{MutatorSeat}
 use Rattle.mutator_rule.specs.Views.{entries_by}
-use Rattle.mutator_rule.specs.Seats.{local_of}
+use Rattle.mutator_rule.specs.Seats.{known, local_of}
 use Rattle.racing_mutator.specs.RacingSeats.{logged_at}
 use Rattle.racing_world.specs.Calls.{history_at, calls_of, number_of, stop_seen, has_raised}
 
@@ -31,6 +34,15 @@ mutator_at seat = mutator_of (local_of seat)
 -- the seat at a place of the list
 abbrev pub IsSeatAt : List MutatorSeat → ℕ → MutatorSeat → Type 0
 IsSeatAt seats k seat = get_elem? seats k ≡ some seat
+
+-- A step of the seat's mutator drew the ticket: the budget word, as the step found it.
+pub record HasDrawn (p : Epoch) (seat : MutatorSeat) (ticket : ℕ) : Type 0 where
+  pub before : List LogEntry
+  pub step : LogEntry
+  pub seen : IsPrefix (before ++ step ∷ []) (known seat).seen
+  pub own : step.mutator ≡ number_of seat
+  pub draws : step.event ≡ event.DrawTicket
+  pub word : word_at (heap_after p before) BUDGET_WORD ≡ ticket
 
 -- The epoch ends with this heap and these mutators, after the closing history: the longest that a
 -- seat has seen.
@@ -54,14 +66,16 @@ pub record EndsEpoch (rules : Rules) (p : Epoch) (seats : List MutatorSeat) (new
   pub logged : (a : ℕ) → IsTrue (is_logged_under rules new a)
       → IsTrue (is_logged_under rules p.before a)
       ⊎ ((k : ℕ) × (seat : MutatorSeat) × IsSeatAt seats k seat × Contains (logged_at rules seat) a)
-  -- Each unused ticket of a seat is below the budget word, which is at most the allowance and the
-  -- number of mutators together. The blocks that were Free and are no
-  -- more, and the unused tickets, are as many as the smaller of budget word and allowance.
+  -- Each ticket that a mutator drew, used or not, is below the budget word, which is at most the
+  -- allowance and the number of mutators together. The blocks that were Free and are no more, and
+  -- the unused tickets below the allowance, are as many as the smaller of budget word and allowance.
   pub budget : ℕ
   pub budget_word : word_at new BUDGET_WORD ≡ budget
   pub most : budget ≤ allowance p + length (numbers_of p.mutators)
   pub drawn : (k t : ℕ) (seat : MutatorSeat) → IsSeatAt seats k seat
       → (local_of seat).ticket ≡ Some t → t < budget
+  pub tickets : (k t : ℕ) (seat : MutatorSeat) → IsSeatAt seats k seat → HasDrawn p seat t
+      → t < budget
   pub counted : free_of p.before
       + sum_by (λ seat. tickets_below (allowance p) (local_of seat).ticket) seats
       ≡ free_of new + smaller budget (allowance p)

@@ -9,7 +9,7 @@ ghost use Rattle.mutator_rule.specs.Seats.{local_of};
 ghost use Rattle.racing_mutator.specs.RacingSeats.{MayCall, holdings};
 ghost use Rattle.racing_rooms.specs.NoRoom.{regions_at};
 ghost use Rattle.racing_mutator.specs.Barriers.{LogsWhereNeeded};
-ghost use Rattle.racing_world.specs.Calls.{EntersCommand, EntersNothing, epoch_of_world, number_of, stop_seen, has_raised};
+ghost use Rattle.racing_world.specs.Calls.{EntersCommand, EntersNothing, LoadsStop, epoch_of_world, number_of, stop_seen, has_raised};
 
 use crate::world::World;
 use ideal_heap::{GLOBALS, REGISTERS, Reply};
@@ -21,23 +21,25 @@ use racing_mutator::Racing;
 
 impl<P: Plan> World<P> {
     /// Whether a stop is raised, and by which mutator: one of this world, and the caller only if it
-    /// called `raise`.
+    /// called `raise`. The call's one step is a load of the stop word.
     pub fn poll(&self, seat: &mut MutatorSeat) -> Polled
         requires { MayCall P.rules self.now.row seat.old }
         ensures nothing { EntersNothing P.rules self.now seat.old seat.new }
         ensures kept { has_raised seat.new ≡ has_raised seat.old }
         ensures holds { holdings (local_of seat.new) ≡ holdings (local_of seat.old) }
         ensures regions { regions_at seat.new ≡ regions_at seat.old }
+        ensures loads { LoadsStop P.rules seat.old (stop_of result) seat.new }
         ensures stop { stop_seen seat.new ≡ stop_of result }
         ensures mutator { (m : ℕ) → result ≡ Polled.Raised m
             → Contains (numbers_of (epoch_of_world P.rules self.now).mutators) m }
         ensures caller { (m : ℕ) → result ≡ Polled.Raised m → m ≡ number_of seat.old
             → has_raised seat.old ≡ true }
     {
-        calls::poll(&mut Racing {
+        let mut racing = Racing {
             row: &self.row,
             seat,
-        })
+        };
+        racing.poll()
     }
 
     /// Raises a stop, unless one is raised.

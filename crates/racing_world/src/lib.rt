@@ -1,4 +1,4 @@
-//! A heap that mutators on threads share: each call is one body of `mutator_calls` over a seat.
+//! A heap that mutators on threads share: each call is one body over a seat's steps.
 #![tactic(auto)]
 
 mod calls;

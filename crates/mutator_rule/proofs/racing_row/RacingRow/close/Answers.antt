@@ -1,7 +1,7 @@
-use Rattle.std.proofs.Common.{◌≡◌, ℕ, List, [], map, sym, subst}
+use Rattle.std.proofs.Common.{List, subst}
 use Rattle.mutator_rule.specs.declared.views.MutatorView.{MutatorView}
 use Rattle.mutator_rule.specs.Logs.{EndsWith}
-use Rattle.mutator_rule.specs.Seats.{known, start_of}
+use Rattle.mutator_rule.specs.Seats.{start_of}
 use Rattle.mutator_rule.proofs.SeatsDealt.{closes}
 use Rattle.mutator_rule.proofs.racing_row.RacingRow.close.Goals as goal
 

@@ -8,6 +8,8 @@ use Rattle.racing_mutator.specs.Searches.{TakesRoom, KeepsHoleRegion}
 use Rattle.racing_mutator.proofs.Searched.{allocates-after, uses-same}
 use Rattle.racing_mutator.proofs.HoleKept.{overflow-then}
 use Rattle.racing_mutator.proofs.RoomTaken.{room-then, unowned-then, below-then, free-then, placed-after}
+use Rattle.racing_mutator.proofs.RegionsMoved.{fills-found}
+use Rattle.racing_mutator.specs.Regions.{FindsRegion, FillsRegion}
 use Rattle.racing_mutator.proofs.racing.Racing.allocate_elsewhere.Goals as goal
 
 pub returns-in-Ok-clause-answer : goal.returns-in-Ok-clause-answer
@@ -23,6 +25,8 @@ returns-in-Ok-clause-answer g c =
     (λ end. below-then g.P.Plan.rules m b es c.find_room.ensures.ready c.allocate_found.ensures.ready c.allocate_found.ensures.makes end size)
     (free-then g.P.Plan.rules m b es c.find_room.ensures.ready c.allocate_found.ensures.ready c.allocate_found.ensures.makes)
     (subst (λ (n : ℕ). TakesRoom g.P.Plan.rules c.args.self.now.seat.now n c.in-Ok.block m.seat.now) c.size_words.ensures c.in-Ok.ensures.takes)))
+    (subst (λ (k : ℕ). FillsRegion g.P.Plan.rules c.args.self.now.seat.now k c.args.d size b.seat.now) (sym c.allocate_found.ensures.here) (fills-found g.P.Plan.rules c.args.self.now.seat.now m.seat.now b.seat.now c.in-Ok.block c.args.d size c.find_room.ensures.searches.makes.goes.start c.allocate_found.ensures.kept
+    (subst (λ (n : ℕ). FindsRegion g.P.Plan.rules c.args.self.now.seat.now n c.in-Ok.block m.seat.now) c.size_words.ensures c.in-Ok.ensures.region) c.allocate_found.ensures.front))
     (overflow-then g.P.Plan.rules c.args.self.now.seat.now m.seat.now b.seat.now size c.allocate_found.ensures.kept c.allocate_found.ensures.hole (subst (λ (n : ℕ). KeepsHoleRegion g.P.Plan.rules c.args.self.now.seat.now n m.seat.now) c.size_words.ensures c.in-Ok.ensures.overflow))
 
 pub returns-in-Err-clause-uses : goal.returns-in-Err-clause-uses

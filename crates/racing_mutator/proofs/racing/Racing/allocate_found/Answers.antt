@@ -1,4 +1,3 @@
-use Rattle.std.proofs.Common.{rules}
 use Rattle.racing_mutator.proofs.RoomTaken.{keeps-with}
 use Rattle.racing_mutator.proofs.racing.Racing.allocate_found.Goals as goal
 

@@ -1,13 +1,17 @@
-use Rattle.std.proofs.Common.{◌≡◌, ◌+◌, ◌<◌, ◌≤◌, sym, ◌∙◌, ap, subst, ℕ, arith, length, rules}
+use Rattle.std.proofs.Common.{◌<◌, ◌≤◌, sym, ◌∙◌, ap, subst, ℕ, arith, length, rules}
 use lib.ListN.{get_or}
 use Rattle.std.specs.Vec.{vec_len}
-use Rattle.local_allocators.specs.MutatorRegions.{cursors_of}
+use Rattle.local_allocators.specs.MutatorRegions.{cursors_of, IsBlockFor}
 use Rattle.local_allocators.specs.NotedSeats.{HasNotedBlocks, regions_in}
 use Rattle.mutator_rule.specs.declared.seat_notes.SeatNotes.{SeatNotes}
 use Rattle.racing_mutator.specs.RacingSeats.{local, holdings, epoch_of_racing}
 use Rattle.racing_mutator.proofs.Noted.{uses-others}
 use Rattle.racing_rooms.proofs.RoomsNoted.{as-read, has-noted, hole-order, over-order, here-below, here-note, here-own}
 use Rattle.racing_mutator.proofs.RoomTaken.{keeps-with}
+use Rattle.racing_mutator.proofs.RegionsMoved.{fills-here}
+use Rattle.racing_mutator.specs.Regions.{FillsRegion}
+use Rattle.racing_rooms.specs.NoRoom.{regions_at}
+use Rattle.object_model.specs.Objects.{size_of}
 use Rattle.racing_mutator.proofs.racing.Racing.allocate_here.Goals as goal
 
 pub block_for-requires-clause-seat : goal.block_for-requires-clause-seat
@@ -52,3 +56,12 @@ returns-clause-uses g c uses = c.allocate_in.ensures.uses (uses-others (epoch_of
 
 pub returns-clause-kept : goal.returns-clause-kept
 returns-clause-kept g c = keeps-with c.args.self.now.seat.now c.allocate_in.new.self.seat.now _ c.allocate_in.ensures.holds
+
+pub returns-clause-region : goal.returns-clause-region
+returns-clause-region g c =
+    let size : ℕ = size_of c.args.shape.now.refs c.args.shape.now.nums in
+    let a = c.args.self.now.seat.now in
+    let b = c.allocate_in.new.self.seat.now in
+    let is : IsBlockFor g.P.Plan.rules.fill (regions_at a) size c.in_ok-block.block = subst (λ (n : ℕ). IsBlockFor g.P.Plan.rules.fill (regions_at a) n c.in_ok-block.block) c.size_words-size.ensures
+    (as-read (λ f ns x. IsBlockFor f (regions_in ns x) c.size_words-size.result c.in_ok-block.block) g.P.Plan.rules.fill c.alloc_kind.result _ _ _ _ (sym c.alloc_kind.ensures) (sym (c.deref.ensures.value ∙ ap (λ (n : SeatNotes). n.blocks.items) c.notes-notes.ensures)) (sym (ap (λ (n : SeatNotes). n.local) c.notes-notes.ensures)) c.in_ok-block.ensures.some) in
+    subst (λ (k : ℕ). FillsRegion g.P.Plan.rules a k c.args.d size b) (sym c.allocate_in.ensures.here) (fills-here g.P.Plan.rules a b c.in_ok-block.block c.args.d size (keeps-with a b _ c.allocate_in.ensures.holds) is c.allocate_in.ensures.front)

@@ -1,4 +1,4 @@
-use Rattle.std.proofs.Common.{◌≡◌, ◌+◌, sym, refl, ◌∙◌, ap, subst, ℕ, List}
+use Rattle.std.proofs.Common.{◌≡◌, ◌+◌, sym, refl, ◌∙◌, ap, subst, ℕ}
 use Rattle.std.specs.Prelude.{slice_get, Some}
 use Rattle.heap_layout.specs.Zones.{block_start}
 use Rattle.object_model.specs.Objects.{size_of}
@@ -6,7 +6,6 @@ use Rattle.sessions.specs.Fitting.{class_for}
 use Rattle.ideal_heap.specs.declared.command.Command.TheVariants as command
 use Rattle.ideal_heap.specs.declared.reply.Reply.TheVariants as reply
 use Rattle.block_regions.specs.declared.block_notes.BlockNote.TheVariants.{Owned}
-use Rattle.mutator_core.specs.declared.state.Extent.{Extent}
 use Rattle.mutator_core.specs.declared.state.Local.{Local}
 use Rattle.mutator_rule.specs.declared.views.EpochStart.{EpochStart}
 use Rattle.mutator_rule.specs.declared.seat_notes.SeatNotes.{SeatNotes}
@@ -22,6 +21,7 @@ use Rattle.racing_mutator.proofs.Allocated.{class-suits, then-enters}
 use Rattle.racing_rooms.proofs.OwnRegions.{may-begin}
 use Rattle.racing_mutator.proofs.RoomTaken.{placed-after}
 use Rattle.racing_mutator.proofs.Written.{holds-written, searches-written, rooms-written, region-written, at-written}
+use Rattle.racing_mutator.proofs.RegionsMoved.{front-after}
 use Rattle.racing_mutator.proofs.racing.Racing.allocate_in.Goals as goal
 
 pub write-requires-clause-begins : goal.write-requires-clause-begins
@@ -77,3 +77,7 @@ returns-clause-hole g c =
     let size : ℕ = size_of c.args.shape.now.refs c.args.shape.now.nums in
     let regions : regions_at c.write.new.self.seat.now ≡ regions_at c.args.self.now.seat.now = ap (λ (n : SeatNotes). regions_in n.blocks.items n.local) c.write.ensures.notes in
     subst (λ (r : MutatorRegions). (RegionHasRoom (cursors_of r).hole size → ⊥) → KeepsHole r (regions_at c.publish_in.new.self.seat.now)) regions c.publish_in.ensures.hole
+
+pub returns-clause-front : goal.returns-clause-front
+returns-clause-front g c = front-after g.P.Plan.rules c.args.self.now.seat.now c.write.new.self.seat.now c.publish_in.new.self.seat.now c.args.block c.args.d (size_of c.args.shape.now.refs c.args.shape.now.nums) c.write.ensures.makes.goes.start
+    (ap (λ (n : SeatNotes). regions_in n.blocks.items n.local) c.write.ensures.notes) c.publish_in.ensures.front

@@ -1,13 +1,14 @@
-use Rattle.std.proofs.Common.{◌≡◌, ◌∙◌, inl, inr, ℕ, rules}
+use Rattle.std.proofs.Common.{◌≡◌, ◌∙◌, inl, inr, rules}
 use Rattle.sessions.specs.Fitting.{class_for}
 use Rattle.racing_mutator.specs.RacingSeats.{local, holdings, epoch_of_racing}
-use Rattle.racing_rooms.specs.Rooms.{UsesItsBlocks, UsesOthers}
 use Rattle.racing_rooms.specs.NoRoom.{LacksUnowned, LacksUnownedBelow, HasNoRoom, regions_at}
 use Rattle.racing_mutator.specs.Searches.{TakesNothing, TakesHole, TakesOneHole}
 use Rattle.racing_mutator.proofs.Allocated.{none-both}
 use Rattle.racing_mutator.proofs.Noted.{uses-others}
 use Rattle.racing_mutator.proofs.Searched.{searches-both, uses-same, uses-after}
 use Rattle.racing_mutator.proofs.RoomTaken.{some-map, some-both, none-map, nothing-both, hole-after, tried-before, all-rooms}
+use Rattle.racing_mutator.proofs.RegionsMoved.{finds-after}
+use Rattle.racing_mutator.specs.Regions.{FindsRegion}
 use Rattle.racing_mutator.proofs.racing.Racing.find_hole.Goals as goal
 
 pub returns-in-Some-clause-searches : goal.returns-in-Some-clause-searches
@@ -51,3 +52,11 @@ returns-clause-lacks g c =
     none-both (TakesNothing g.P.Plan.rules c.take_own_hole.new.self b × (regions_at b.seat.now ≡ regions_at c.take_own_hole.new.self.seat.now)) (LacksUnowned g.P.Plan.rules b.seat.now c.args.size) (HasNoRoom g.P.Plan.rules b.seat.now c.args.size) c.take_some_hole.result
     (λ both lacks. all-rooms g.P.Plan.rules c.args.self.now c.take_own_hole.new.self b c.args.size c.take_own_hole.ensures.ready c.take_some_hole.ensures.ready c.take_own_hole.ensures.rooms c.take_some_hole.ensures.rooms c.in_default.ensures.regions c.requires.full c.in_default.ensures.lacks both.0 both.1 lacks)
     (none-both (TakesNothing g.P.Plan.rules c.take_own_hole.new.self b) (regions_at b.seat.now ≡ regions_at c.take_own_hole.new.self.seat.now) _ c.take_some_hole.result (λ one two. (one, two)) c.take_some_hole.ensures.nothing c.take_some_hole.ensures.regions) c.take_some_hole.ensures.lacks
+
+pub returns-clause-region : goal.returns-clause-region
+returns-clause-region g c =
+    let m = c.take_own_hole.new.self in
+    let b = c.take_some_hole.new.self in
+    some-map (λ k. FindsRegion g.P.Plan.rules m.seat.now c.args.size k b.seat.now) (λ k. FindsRegion g.P.Plan.rules c.args.self.now.seat.now c.args.size k b.seat.now) c.take_some_hole.result
+    (λ k is. finds-after g.P.Plan.rules c.args.self.now.seat.now m.seat.now b.seat.now c.args.size k c.take_own_hole.ensures.takes.searches.makes.goes.start c.in_default.ensures.regions c.take_own_hole.ensures.takes.owned c.take_own_hole.ensures.takes.granted is)
+    c.take_some_hole.ensures.region

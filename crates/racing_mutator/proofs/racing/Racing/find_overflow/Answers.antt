@@ -1,9 +1,10 @@
-use Rattle.std.proofs.Common.{◌≡◌, ◌≤◌, ◌∙◌, sym, inl, inr, ℕ, subst, rules}
+use Rattle.std.proofs.Common.{◌≤◌, ◌∙◌, sym, inl, inr, subst, rules}
 use Rattle.mutator_core.specs.Guards.{allowance}
 use Rattle.mutator_rule.specs.declared.views.EpochStart.{EpochStart}
 use Rattle.mutator_rule.specs.Views.{epoch_with}
 use Rattle.racing_mutator.proofs.Searched.{searches-both, uses-after}
 use Rattle.racing_mutator.proofs.RoomTaken.{nothing-both, tried-lines, full-same, room-of-free, room-in-vain}
+use Rattle.racing_mutator.proofs.RegionsMoved.{finds-after}
 use Rattle.racing_mutator.proofs.racing.Racing.find_overflow.Goals as goal
 
 pub returns-in-Ok-clause-takes : goal.returns-in-Ok-clause-takes
@@ -45,3 +46,8 @@ returns-in-Some-clause-overflow g c over = inr (c.in-Err.ticket, c.in-Some.ensur
 
 pub returns-in-None-clause-regions : goal.returns-in-None-clause-regions
 returns-in-None-clause-regions g c = c.in-None.ensures.regions ∙ c.in-Err.ensures.regions
+
+pub returns-in-Some-clause-region : goal.returns-in-Some-clause-region
+returns-in-Some-clause-region g c =
+    let none = c.in-Err.ensures.nothing in
+    finds-after g.P.Plan.rules c.args.self.now.seat.now c.take_free_block.new.self.seat.now c.find_hole.new.self.seat.now c.args.size c.in-Some.block none.searches.makes.goes.start c.in-Err.ensures.regions none.owned none.granted c.in-Some.ensures.region

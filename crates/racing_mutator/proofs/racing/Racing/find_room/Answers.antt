@@ -1,4 +1,4 @@
-use Rattle.std.proofs.Common.{◌≡◌, ◌≤◌, ◌<◌, ◌∙◌, inl, inr, ℕ, true, false, rules}
+use Rattle.std.proofs.Common.{◌≡◌, ◌≤◌, ◌<◌, ◌∙◌, ℕ, false, rules}
 use Rattle.std.specs.Prelude.{Some}
 use Rattle.sessions.specs.Fitting.{class_for}
 use Rattle.mutator_core.specs.Guards.{allowance}
@@ -8,6 +8,8 @@ use Rattle.racing_rooms.specs.NoRoom.{regions_at, LacksFreeBelow, IsCauseFor}
 use Rattle.racing_mutator.specs.Searches.{TakesNothing, TakesFree, TakesRoom, KeepsHoleRegion}
 use Rattle.racing_mutator.proofs.Searched.{searches-both, uses-after}
 use Rattle.racing_mutator.proofs.RoomTaken.{ok-map, ok-both, err-map, err-both, nothing-both, none-then, room-of-hole, room-at-last}
+use Rattle.racing_mutator.proofs.RegionsMoved.{finds-after}
+use Rattle.racing_mutator.specs.Regions.{FindsRegion}
 use Rattle.racing_mutator.proofs.racing.Racing.find_room.Goals as goal
 
 pub returns-in-Some-clause-takes : goal.returns-in-Some-clause-takes
@@ -52,3 +54,11 @@ returns-clause-overflow g c =
 pub returns-clause-regions : goal.returns-clause-regions
 returns-clause-regions g c = err-map (λ t. regions_at c.take_free_block.new.self.seat.now ≡ regions_at c.find_hole.new.self.seat.now) (λ t. regions_at c.take_free_block.new.self.seat.now ≡ regions_at c.args.self.now.seat.now) c.take_free_block.result
     (λ t is. is ∙ c.in_default.ensures.regions) c.take_free_block.ensures.regions
+
+pub returns-clause-region : goal.returns-clause-region
+returns-clause-region g c =
+    let m = c.find_hole.new.self in
+    let b = c.take_free_block.new.self in
+    let none = c.in_default.ensures.nothing in
+    ok-map (λ k. FindsRegion g.P.Plan.rules m.seat.now c.args.size k b.seat.now) (λ k. FindsRegion g.P.Plan.rules c.args.self.now.seat.now c.args.size k b.seat.now) c.take_free_block.result
+    (λ k is. finds-after g.P.Plan.rules c.args.self.now.seat.now m.seat.now b.seat.now c.args.size k none.searches.makes.goes.start c.in_default.ensures.regions none.owned none.granted is) c.take_free_block.ensures.region

@@ -1,4 +1,4 @@
-use Rattle.std.proofs.Common.{◌≡◌, ◌∙◌, ap, rules}
+use Rattle.std.proofs.Common.{◌∙◌, ap, rules}
 use Rattle.std.specs.Prelude.{Some}
 use Rattle.local_allocators.specs.NotedSeats.{regions_in}
 use Rattle.mutator_rule.specs.declared.seat_notes.SeatNotes.{SeatNotes}

@@ -1,10 +1,10 @@
-use Rattle.std.proofs.Common.{◌≡◌, ◌∙◌, ◌+◌, ◌*◌, ◌<◌, sym, refl, ap, subst, ℕ, List, slice_index, arith, rules}
-use Rattle.heap_layout.specs.Zones.{LineWords, StartBits, first}
+use Rattle.std.proofs.Common.{◌∙◌, ◌+◌, ◌*◌, sym, subst, ℕ, slice_index, rules}
+use Rattle.heap_layout.specs.Zones.{StartBits, first}
 use Rattle.mutator_rule.specs.declared.views.EpochStart.{EpochStart}
 use Rattle.mutator_rule.specs.Views.{epoch_with}
-use Rattle.racing_mutator.specs.RacingSeats.{epoch_of_racing, view, local}
+use Rattle.racing_mutator.specs.RacingSeats.{local}
 use Rattle.racing_mutator.specs.SeatLaws.{loads-twice}
-use Rattle.racing_mutator.specs.Looks.{HasLoaded, HasSeenEnd, HasLooked}
+use Rattle.racing_mutator.specs.Looks.{HasLoaded, HasSeenEnd}
 use Rattle.racing_mutator.proofs.racing.Racing.look_at.Goals as goal
 
 pub returns-clause-looks : goal.returns-clause-looks

@@ -1,9 +1,8 @@
-use Rattle.std.proofs.Common.{◌≡◌, ◌∙◌, ◌+◌, ◌*◌, ◌/◌, ◌%◌, ◌<◌, ◌≤◌, inl, inr, sym, refl, ap, subst, ℕ, arith, rules}
-use Rattle.heap_layout.specs.Zones.{block_start, IsAddress}
+use Rattle.std.proofs.Common.{◌≡◌, ◌∙◌, ◌+◌, ◌/◌, ◌%◌, ◌<◌, inr, sym, subst, ℕ, arith, rules}
+use Rattle.heap_layout.specs.Zones.{block_start}
 use Rattle.mutator_core.specs.declared.state.Local.{Local}
 use Rattle.mutator_core.specs.Guards.{HasSeenStart}
 use Rattle.mutator_core.proofs.Lists.{contains-here, contains-there}
-use Rattle.plan_api.proofs.BlockViews.{word-address}
 use Rattle.racing_mutator.specs.RacingSeats.{epoch_of_racing, local}
 use Rattle.racing_mutator.specs.Looks.{HasLoaded}
 use Rattle.racing_mutator.proofs.Pinned.{blocks-same}

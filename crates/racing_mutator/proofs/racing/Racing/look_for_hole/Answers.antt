@@ -1,5 +1,5 @@
-use Rattle.std.proofs.Common.{◌≡◌, ◌∙◌, sym, refl, ap, subst, ℕ, List, inr, arith, rules}
-use Rattle.std.specs.Prelude.{Some, None}
+use Rattle.std.proofs.Common.{◌≡◌, ◌∙◌, sym, ap, subst, ℕ, inr, arith, rules}
+use Rattle.std.specs.Prelude.{None}
 use Rattle.heap_layout.specs.Blocks.{code_of}
 use Rattle.heap_layout.specs.declared.block.BlockWord.{BlockWord}
 use Rattle.heap_layout.specs.declared.block.Kind.{Kind}

@@ -1,4 +1,4 @@
-use Rattle.std.proofs.Common.{◌≡◌, ◌∙◌, ◌+◌, ◌*◌, ◌<◌, sym, refl, ap, subst, ℕ, inl, List, slice_index, arith, rules}
+use Rattle.std.proofs.Common.{◌≡◌, ◌∙◌, ◌+◌, ◌*◌, ◌<◌, sym, ap, subst, ℕ, inl, slice_index, arith, rules}
 use Rattle.std.specs.Prelude.{Some}
 use Rattle.heap_layout.specs.Blocks.{code_of}
 use Rattle.heap_layout.specs.Zones.{LineWords, first}

@@ -1,4 +1,4 @@
-use Rattle.std.proofs.Common.{◌≡◌, ◌∙◌, ◌+◌, ◌<◌, sym, refl, ap, subst, ℕ, arith, rules}
+use Rattle.std.proofs.Common.{◌+◌, ◌<◌, sym, refl, subst, ℕ, rules}
 use Rattle.racing_mutator.proofs.Looking.{step-loads}
 use Rattle.racing_mutator.proofs.Looked.{shape-inside, shape-small}
 use Rattle.racing_mutator.proofs.Pinned.{words-same}

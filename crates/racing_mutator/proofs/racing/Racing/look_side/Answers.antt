@@ -1,4 +1,4 @@
-use Rattle.std.proofs.Common.{◌≡◌, ◌∙◌, ◌+◌, ◌<◌, sym, refl, ap, subst, ℕ, arith, rules}
+use Rattle.std.proofs.Common.{refl, rules}
 use Rattle.racing_mutator.proofs.Looking.{step-loads}
 use Rattle.racing_mutator.proofs.Looked.{line-found}
 use Rattle.racing_mutator.proofs.racing.Racing.look_side.Goals as goal

@@ -1,14 +1,14 @@
-use Rattle.std.proofs.Common.{◌≡◌, ◌≢◌, ◌∙◌, ◌+◌, ◌*◌, ◌<◌, ◌≤◌, inl, inr, sym, refl, ap, subst, ℕ, List, length, slice_index, arith, below_more, get_or-set_same, get_or-set_other, length-set, rules}
-use Rattle.heap_layout.specs.Zones.{LineWords, StartBits, InZone, first}
+use Rattle.std.proofs.Common.{◌≡◌, ◌≢◌, ◌∙◌, ◌+◌, ◌*◌, ◌<◌, inr, sym, subst, ℕ, length, slice_index, arith, below_more, get_or-set_same, get_or-set_other, length-set, rules}
+use Rattle.heap_layout.specs.Zones.{StartBits, InZone, first}
 use Rattle.mutator_core.specs.declared.state.Local.{Local}
 use Rattle.mutator_core.proofs.Lists.{contains-here, contains-there}
 use Rattle.mutator_rule.specs.declared.views.EpochStart.{EpochStart}
 use Rattle.mutator_rule.specs.Views.{epoch_with}
 use Rattle.racing_mutator.specs.RacingSeats.{epoch_of_racing, local}
-use Rattle.racing_mutator.specs.SeatLaws.{loads-twice, loads-nothing}
+use Rattle.racing_mutator.specs.SeatLaws.{loads-twice}
 use Rattle.racing_mutator.specs.Looks.{HasLoaded}
 use Rattle.racing_mutator.proofs.Pinned.{blocks-same}
-use Rattle.racing_mutator.proofs.Looked.{line-zone, start-zone}
+use Rattle.racing_mutator.proofs.Looked.{start-zone}
 use Rattle.racing_mutator.proofs.racing.Racing.look_starts.Goals as goal
 
 pub look_side-requires-clause-zone : goal.look_side-requires-clause-zone

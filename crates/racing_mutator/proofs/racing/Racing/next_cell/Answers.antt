@@ -1,9 +1,6 @@
-use Rattle.std.proofs.Common.{◌≡◌, ◌∙◌, ◌+◌, ◌*◌, ◌/◌, ◌<◌, ◌≤◌, inl, inr, sym, refl, ap, subst, ℕ, arith, false, rules}
-use Rattle.std.proofs.lemmas.Bool.{cases_lt, cases_eq}
+use Rattle.std.proofs.Common.{◌≡◌, ◌∙◌, ◌+◌, ◌*◌, ◌/◌, ◌<◌, ◌≤◌, sym, refl, ap, subst, ℕ, arith, rules}
 use Rattle.heap_layout.specs.Zones.{StartBits, block_start, first}
-use Rattle.heap_layout.specs.declared.region.Region.{Region}
-use Rattle.object_model.specs.Objects.{cell_words, is_start}
-use Rattle.mutator_core.specs.declared.state.Local.{Local}
+use Rattle.object_model.specs.Objects.{cell_words}
 use Rattle.mutator_core.specs.Guards.{HasSeenStart}
 use Rattle.mutator_core.specs.Machine.{Epoch}
 use Rattle.mutator_rule.specs.declared.views.EpochStart.{EpochStart}
@@ -12,8 +9,8 @@ use Rattle.mutator_rule.specs.Logs.{KnowsLog}
 use Rattle.racing_mutator.specs.Looks.{IsStartWord}
 use Rattle.racing_rooms.proofs.OwnSeen.{start-seen, start-clear}
 use Rattle.racing_mutator.specs.RacingSeats.{view, local, epoch_of_racing}
-use Rattle.racing_mutator.specs.SeatLaws.{loads-twice, loads-nothing}
-use Rattle.racing_rooms.specs.OwnHoles.{HasSeenTaken, IsNextCell, cell, none}
+use Rattle.racing_mutator.specs.SeatLaws.{loads-twice}
+use Rattle.racing_rooms.specs.OwnHoles.{HasSeenTaken, cell, none}
 use Rattle.racing_mutator.proofs.RestSeen.{taken-more, taken-still}
 use Rattle.racing_mutator.proofs.racing.Racing.next_cell.Goals as goal
 

@@ -1,4 +1,4 @@
-use Rattle.std.specs.Prelude.{◌≡◌, ℕ, ◌+◌, ◌*◌, ◌-◌, ◌≤◌}
+use Rattle.std.specs.Prelude.{◌≡◌, ℕ, ◌*◌, ◌-◌, ◌≤◌}
 use Rattle.object_model.specs.Objects.{cell_words}
 use Rattle.racing_mutator.specs.RacingSeats.{IsReady, OnlyLoads, local, epoch_of_racing}
 use Rattle.racing_mutator.specs.Looks.{IsStartWord}

@@ -1,4 +1,4 @@
-use Rattle.std.proofs.Common.{◌+◌, sym, ◌∙◌, refl}
+use Rattle.std.proofs.Common.{◌+◌, sym, ◌∙◌}
 use Rattle.racing_mutator.proofs.racing.Racing.next_name.Goals as goal
 
 pub returns : goal.returns

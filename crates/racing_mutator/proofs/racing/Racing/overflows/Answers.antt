@@ -1,4 +1,4 @@
-use Rattle.std.proofs.Common.{◌≡◌, ◌≤◌, sym, ◌∙◌, ap, true, false, rules}
+use Rattle.std.proofs.Common.{◌≤◌, sym, ◌∙◌, ap}
 use Rattle.local_allocators.specs.MutatorRegions.{Overflows, cursors_of}
 use Rattle.local_allocators.specs.NotedSeats.{HasNotedBlocks, regions_in}
 use Rattle.mutator_rule.specs.declared.seat_notes.SeatNotes.{SeatNotes}

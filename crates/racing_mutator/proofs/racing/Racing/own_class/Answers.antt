@@ -1,6 +1,5 @@
-use Rattle.std.proofs.Common.{◌≡◌, ◌∙◌, sym, refl, ap, subst, ℕ, rules}
-use Rattle.std.specs.Prelude.{Option, Some, IsTrue}
-use Rattle.heap_layout.specs.Blocks.{is_block_code}
+use Rattle.std.proofs.Common.{◌≡◌, ◌∙◌, sym, refl, ap, rules}
+use Rattle.std.specs.Prelude.{Some}
 use Rattle.heap_layout.specs.declared.block.BlockWord.{BlockWord}
 use Rattle.racing_mutator.proofs.Looking.{step-loads}
 use Rattle.racing_mutator.proofs.OwnWords.{IsWordFor, own-word, own-code}

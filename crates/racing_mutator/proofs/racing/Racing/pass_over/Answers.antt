@@ -1,4 +1,4 @@
-use Rattle.std.proofs.Common.{◌≡◌, ◌∙◌, sym, refl, ap, subst, ℕ, rules}
+use Rattle.std.proofs.Common.{refl, rules}
 use Rattle.racing_mutator.proofs.HolesPassed.{only-passed, ready-by, rooms-by, lacks-by}
 use Rattle.racing_mutator.proofs.racing.Racing.pass_over.Goals as goal
 

@@ -1,10 +1,10 @@
-use Rattle.std.proofs.Common.{◌≡◌, ◌≤◌, ◌∙◌, sym, refl, ap, subst, rules}
+use Rattle.std.proofs.Common.{◌≤◌, sym, refl, ap, subst, rules}
 use Rattle.heap_layout.specs.Zones.{heap_of}
 use Rattle.ideal_heap.specs.declared.name.Name.{Name}
 use Rattle.ideal_heap.specs.declared.reply.Reply.TheVariants as reply
 use Rattle.mutator_core.specs.declared.state.Local.{Local}
 use Rattle.mutator_core.specs.declared.state.Unpublished.{Unpublished}
-use Rattle.racing_mutator.specs.RacingSeats.{epoch_of_racing, local}
+use Rattle.racing_mutator.specs.RacingSeats.{local}
 use Rattle.racing_mutator.proofs.Entered.{step-makes}
 use Rattle.racing_mutator.specs.SeatLaws.{makes-nothing}
 use Rattle.racing_mutator.proofs.Allocated.{start-stored, then-enters}

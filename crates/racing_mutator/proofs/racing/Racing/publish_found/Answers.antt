@@ -1,4 +1,4 @@
-use Rattle.std.proofs.Common.{◌≡◌, ◌+◌, ◌<◌, ◌≤◌, sym, ◌∙◌, subst, ℕ, length, rules}
+use Rattle.std.proofs.Common.{◌≡◌, ◌+◌, ◌<◌, ◌≤◌, ◌∙◌, subst, length, rules}
 use Rattle.std.specs.Prelude.{Some, slice_get}
 use lib.ListN.{get_or}
 use Rattle.heap_layout.specs.declared.region.Region.{Region}

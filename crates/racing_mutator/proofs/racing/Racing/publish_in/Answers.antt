@@ -1,5 +1,5 @@
-use Rattle.std.proofs.Common.{◌≡◌, ◌+◌, ◌<◌, ◌≤◌, refl, sym, ◌∙◌, ap, subst, ℕ, List, [], ◌∷◌, arith, rules}
-use Rattle.std.specs.Prelude.{Some, slice_set, slice_index}
+use Rattle.std.proofs.Common.{◌≡◌, ◌+◌, ◌<◌, ◌≤◌, refl, sym, ◌∙◌, ap, subst, ℕ, List, [], ◌∷◌, arith, rules, length}
+use Rattle.std.specs.Prelude.{Some, slice_set, slice_index, Option}
 use Rattle.heap_layout.specs.Zones.{block_at, block_start}
 use Rattle.ideal_heap.specs.Runs.{Entry, entry}
 use Rattle.ideal_heap.specs.declared.command.Command.TheVariants as command
@@ -27,6 +27,15 @@ use Rattle.local_allocators.specs.Seats.{block_of}
 use Rattle.racing_mutator.proofs.HoleKept.{hole-kept, room-apart}
 use Rattle.racing_mutator.proofs.RestSeen.{rest-left, placed-as}
 use Rattle.racing_mutator.proofs.RoomTaken.{placed-at, born-at}
+use Rattle.block_regions.proofs.Lists.{get-below}
+use Rattle.racing_mutator.proofs.RegionsMoved.{left-moved}
+use Rattle.mutator_core.specs.declared.state.Local.{Local}
+use Rattle.racing_mutator.specs.Regions.{IsRestOf}
+use Rattle.racing_rooms.specs.NoRoom.{regions_at}
+use Rattle.local_allocators.specs.NotedRegions.{region_noted}
+use Rattle.local_allocators.specs.NotedSeats.{regions_in}
+use Rattle.block_regions.specs.declared.block_notes.BlockNote.{BlockNote}
+use Rattle.heap_layout.specs.declared.region.Region.{Region}
 use Rattle.racing_mutator.proofs.racing.Racing.publish_in.Goals as goal
 
 pub publish-name-requires-clause-place : goal.publish-name-requires-clause-place
@@ -145,3 +154,36 @@ returns-clause-makes g c =
     makes-then g.P.Plan.rules c.args.self.now c.rest_after-rest.new.self _ entered
     (makes-then g.P.Plan.rules c.args.self.now c.publish-name.new.self c.rest_after-rest.new.self entered c.publish-name.ensures.makes c.rest_after-rest.ensures.looks.makes)
     (noted-makes g.P.Plan.rules c.rest_after-rest.new.self _ refl refl c.note_block.ensures.known (ap (λ (n : SeatNotes). n.flags) c.note_block.ensures.rest))
+
+pub returns-clause-front : goal.returns-clause-front
+returns-clause-front g c =
+    let rules = g.P.Plan.rules in
+    let p : Epoch = epoch_of_racing g.P.Plan.rules c.args.self.now in
+    let size : ℕ = size_of c.args.shape.now.refs c.args.shape.now.nums in
+    let m = c.publish-name.new.self in
+    let n = c.rest_after-rest.new.self in
+    let b = c.note_block.new.self in
+    let rest = c.rest_after-rest.result in
+    let stays = c.note_block.ensures.known.known_stays in
+    let left : (regions_at c.args.self.now.seat.now).left (Some c.args.block) ≡ c.args.region.now = ap (λ (o : Option BlockNote). region_noted o) c.requires.note in
+    let registers : (local_of b).registers ≡ (local m).registers = ap (λ (v : MutatorView). v.local.registers) stays ∙ n.seat.now.held ∙ c.rest_after-rest.ensures.looks.registers ∙ sym m.seat.now.held in
+    let at : address_in (local_of b) c.args.d ≡ c.address-address.result = ap (λ (rs : List ℕ). slice_index rs c.args.d) registers
+    ∙ born-at g.P.Plan.rules c.args.self.now.seat.now m.seat.now c.address-address.result c.args.d c.args.shape.now.refs c.args.shape.now.nums c.requires.own.2 c.requires.register c.publish-name.ensures.born in
+    let leaves : IsRestOf p (local_of b) c.args.block size c.args.region.now rest = record {
+      plain = λ f. c.rest_after-rest.ensures.plain f ∙ (λ k. record { next = c.args.region.now.next + c.size_words.ensures k; end = c.args.region.now.end });
+      cells = λ f. subst (λ (l : Local). IsNextCell p l c.args.block (class_for g.P.Plan.rules.fill size) c.args.region.now.end rest) (sym (ap (λ (v : MutatorView). v.local) stays))
+          (subst (λ (s : EpochStart). IsNextCell (epoch_with rules s) (local n) c.args.block (class_for g.P.Plan.rules.fill size) c.args.region.now.end rest) c.publish-name.ensures.makes.goes.start
+          (subst (λ (q : ℕ). IsNextCell (epoch_of_racing rules m) (local n) c.args.block (class_for g.P.Plan.rules.fill q) c.args.region.now.end rest) c.size_words.ensures (c.rest_after-rest.ensures.cells f)));
+    } in
+    let there : c.args.block < length c.args.self.now.seat.now.notes.blocks.items = get-below c.args.self.now.seat.now.notes.blocks.items c.args.block (Owned c.args.owner c.args.region.now) c.requires.note in
+    record {
+      rest = rest;
+      room = subst (λ (r : Region). r.next + size ≤ r.end) (sym left) c.requires.room;
+      front = at ∙ c.address-address.ensures ∙ (λ k. block_start (c.layout.ensures k).blocks c.args.block + c.args.region.now.next) ∙ (λ k. block_start (blocks-of rules c.args.self.now c.requires.own k) c.args.block + (sym left k).next);
+      leaves = subst (λ (r : Region). IsRestOf p (local_of b) c.args.block size r rest) (sym left) leaves;
+      regions =
+          (λ k. regions_in (c.note_block.ensures.blocks k) (c.note_block.ensures.rest k).local)
+          ∙ (λ k. regions_in (slice_set (c.rest_after-rest.ensures.notes k).blocks.items c.args.block (Owned c.args.owner rest)) (c.rest_after-rest.ensures.notes k).local)
+          ∙ (λ k. regions_in (slice_set (c.publish-name.ensures.notes k).blocks.items c.args.block (Owned c.args.owner rest)) (c.publish-name.ensures.notes k).local)
+          ∙ left-moved c.args.self.now.seat.now.notes.blocks.items c.args.self.now.seat.now.notes.local c.args.block c.args.owner rest there;
+    }

@@ -1,11 +1,7 @@
-use Rattle.std.proofs.Common.{◌≡◌, ◌≢◌, ◌∙◌, ◌+◌, ◌*◌, ◌<◌, ◌≤◌, sym, refl, ap, subst, ℕ, arith, rules}
-use Rattle.heap_layout.specs.declared.block.Kind.{Kind}
+use Rattle.std.proofs.Common.{◌≡◌, ◌∙◌, ◌+◌, ◌*◌, sym, ap, ℕ, arith, rules}
 use Rattle.heap_layout.specs.declared.block.Kind.TheVariants as kinds
 use Rattle.object_model.specs.Objects.{cell_words}
 use Rattle.sessions.specs.Fitting.{class_for}
-use Rattle.racing_mutator.specs.RacingSeats.{local, epoch_of_racing}
-use Rattle.racing_mutator.specs.SeatLaws.{loads-nothing}
-use Rattle.racing_rooms.specs.OwnHoles.{IsNextCell}
 use Rattle.racing_mutator.proofs.racing.Racing.rest_after.Goals as goal
 
 pub next_cell-requires-clause-from : goal.next_cell-requires-clause-from

@@ -1,18 +1,20 @@
-use Rattle.std.proofs.Common.{◌≡◌, ◌≢◌, ◌∙◌, ◌+◌, ◌-◌, ◌<◌, ◌≤◌, sym, refl, ap, subst, ℕ, arith, false, length, [], rules}
-use Rattle.std.specs.Prelude.{Some, slice_get, slice_set}
-use Rattle.std.specs.List.{Contains}
+use Rattle.std.proofs.Common.{◌≡◌, ◌∙◌, ◌-◌, ◌<◌, ◌≤◌, sym, refl, ap, subst, ℕ, arith, false, length, [], rules}
+use Rattle.std.specs.Prelude.{Some, slice_get, Option}
 use Rattle.std.specs.Vec.{vec_len}
 use lib.ListN.{get_or}
 use Rattle.sessions.specs.Fitting.{class_for}
 use Rattle.block_regions.specs.declared.block_notes.BlockNote.TheVariants.{Owned}
 use Rattle.block_regions.proofs.FilledKinds.{class-few}
-use Rattle.mutator_core.specs.Machine.{Epoch}
 use Rattle.mutator_rule.specs.declared.seat_notes.SeatNotes.{SeatNotes}
 use Rattle.racing_mutator.specs.RacingSeats.{local, holdings, epoch_of_racing}
 use Rattle.racing_rooms.specs.Rooms.{Holdings, IsOwnRegion}
 use Rattle.racing_rooms.proofs.RoomsKept.{rooms-kept}
 use Rattle.racing_mutator.specs.Searches.{NotesOwn}
-use Rattle.racing_mutator.proofs.OwnReturns.{note-read, left-full, left-unowned, takes-noted, kept-noted, ready-after, rooms-again, found-again}
+use Rattle.racing_mutator.proofs.OwnReturns.{note-read, left-full, takes-noted, kept-noted, ready-after, rooms-again, found-again}
+use Rattle.racing_mutator.proofs.RegionsMoved.{finds-noted}
+use Rattle.racing_mutator.specs.Regions.{own_block}
+use Rattle.local_allocators.specs.NotedRegions.{region_noted}
+use Rattle.block_regions.specs.declared.block_notes.BlockNote.{BlockNote}
 use Rattle.racing_mutator.proofs.racing.Racing.return_to.Goals as goal
 
 pub index-requires : goal.index-requires
@@ -108,3 +110,18 @@ returns-clause-found g c done =
     c.args.block class c.in-Owned.owner number c.in-Owned.region c.in-Owned.region c.notes-2.result.now.local.ticket c.requires.rooms note (subst (λ (q : ℕ). IsOwnRegion (epoch_of_racing g.P.Plan.rules c.args.self.now) (holdings (local c.args.self.now)) c.args.block q c.in-Owned.region) is own.1)
     (λ q same. same) (let few = class-few g.P.Plan.rules.fill c.args.size in omega arith) noted (ap (λ (m : SeatNotes). m.local.ticket) (c.notes-2.ensures ∙ c.own_class.ensures.notes))
     c.args.size (omega (arith, order, c.if-left-size.false))
+
+pub returns-clause-region : goal.returns-clause-region
+returns-clause-region g c done =
+    let items = c.args.self.now.seat.now.notes.blocks.items in
+    let there : c.args.block < length items = subst (λ (n : ℕ). c.args.block < n) (sym c.requires.rooms.len) c.requires.block in
+    let note : slice_get items c.args.block ≡ Some (Owned c.in-Owned.owner c.in-Owned.region) =
+    note-read items c.args.block c.index.result.now c.in-Owned.owner c.in-Owned.region there (c.index.ensures ∙ (λ k. get_or (c.notes.ensures k).blocks.items c.args.block c.index.result.now)) c.in-Owned.is in
+    let number : ℕ = c.own_class.new.self.seat.now.number in
+    let ticket = c.notes-2.result.now.local.ticket in
+    let noted : NotesOwn c.args.self.now.seat.now.notes c.note_own.new.self.seat.now.notes false c.args.block (class_for g.P.Plan.rules.fill c.args.size) (Owned number c.in-Owned.region) ticket =
+    subst (λ (m : SeatNotes). NotesOwn m c.note_own.new.self.seat.now.notes false c.args.block (class_for g.P.Plan.rules.fill c.args.size) (Owned number c.in-Owned.region) ticket) c.own_class.ensures.notes
+    (subst (λ (q : ℕ). NotesOwn c.own_class.new.self.seat.now.notes c.note_own.new.self.seat.now.notes false c.args.block q (Owned number c.in-Owned.region) ticket) c.class_for-class.ensures c.note_own.ensures.notes) in
+    let kept = kept-noted g.P.Plan.rules c.args.self.now c.own_class.new.self c.note_own.new.self c.own_class.ensures.looks c.own_class.ensures.births c.own_class.ensures.ready c.note_own.ensures.known c.note_own.ensures.row c.note_own.ensures.seat in
+    finds-noted g.P.Plan.rules c.args.self.now.seat.now c.note_own.new.self.seat.now false c.args.block c.args.size number c.in-Owned.region ticket noted c.requires.rooms c.requires.block
+    (own_block (ap (λ (h : Holdings). h.owned) kept) c.requires.plain refl (sym (ap (λ (o : Option BlockNote). region_noted o) note)))

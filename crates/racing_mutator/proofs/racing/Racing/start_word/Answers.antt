@@ -1,12 +1,10 @@
-use Rattle.std.proofs.Common.{◌≡◌, ◌∙◌, ◌+◌, ◌*◌, ◌/◌, ◌<◌, ◌∷◌, inr, sym, ap, subst, ℕ, arith}
+use Rattle.std.proofs.Common.{◌≡◌, ◌∙◌, ◌+◌, ◌*◌, ◌/◌, ◌∷◌, inr, sym, subst, ℕ, arith}
 use Rattle.std.specs.List.{Contains}
 use Rattle.heap_layout.specs.Zones.{StartBits, first}
-use Rattle.mutator_core.specs.declared.state.Loaded.{Loaded}
 use Rattle.mutator_core.specs.declared.state.Local.{Local}
 use Rattle.mutator_core.specs.Guards.{HasSeenStart}
 use Rattle.mutator_core.proofs.Lists.{contains-here, contains-there}
 use Rattle.racing_mutator.specs.RacingSeats.{local, epoch_of_racing}
-use Rattle.racing_mutator.specs.SeatLaws.{loads-nothing}
 use Rattle.racing_mutator.proofs.Looked.{start-zone}
 use Rattle.racing_mutator.proofs.Pinned.{blocks-same}
 use Rattle.racing_mutator.proofs.racing.Racing.start_word.Goals as goal

@@ -1,4 +1,4 @@
-use Rattle.std.proofs.Common.{◌≡◌, ◌<◌, ◌∙◌, sym, ap, subst, ℕ, arith, rules}
+use Rattle.std.proofs.Common.{◌≡◌, ◌<◌, ◌∙◌, sym, ap, subst, ℕ, rules}
 use Rattle.std.specs.Prelude.{Some}
 use Rattle.mutator_core.specs.Guards.{allowance}
 use Rattle.mutator_rule.specs.declared.views.EpochStart.{EpochStart}
@@ -7,9 +7,10 @@ use Rattle.mutator_rule.specs.Views.{epoch_with}
 use Rattle.local_allocators.specs.MutatorRegions.{MutatorRegions, KeepsHole, Overflows}
 use Rattle.racing_rooms.specs.NoRoom.{regions_at}
 use Rattle.sessions.specs.Fitting.{class_for}
-use Rattle.racing_mutator.specs.RacingSeats.{local, epoch_of_racing}
+use Rattle.racing_mutator.specs.RacingSeats.{epoch_of_racing}
 use Rattle.racing_mutator.proofs.Searched.{searches-both, uses-after}
 use Rattle.racing_mutator.proofs.RoomTaken.{free-after}
+use Rattle.racing_mutator.proofs.RegionsMoved.{finds-after}
 use Rattle.racing_mutator.proofs.racing.Racing.take_free_block.Goals as goal
 
 pub returns-clause-searches : goal.returns-clause-searches
@@ -32,3 +33,8 @@ returns-clause-good g c t is =
 pub returns-clause-hole : goal.returns-clause-hole
 returns-clause-hole g c over = subst (λ (r : MutatorRegions). KeepsHole r (regions_at c.take_some_free.new.self.seat.now)) c.hold_ticket-ticket.ensures.regions
     (c.take_some_free.ensures.hole (subst (λ (r : MutatorRegions). Overflows g.P.Plan.rules.fill r c.args.size) (sym c.hold_ticket-ticket.ensures.regions) over))
+
+pub returns-clause-region : goal.returns-clause-region
+returns-clause-region g c =
+    let drawn = c.hold_ticket-ticket.ensures in
+    finds-after g.P.Plan.rules c.args.self.now.seat.now c.hold_ticket-ticket.new.self.seat.now c.take_some_free.new.self.seat.now c.args.size c.take_some_free.result drawn.takes.searches.makes.goes.start drawn.regions drawn.takes.owned drawn.takes.granted c.take_some_free.ensures.region

@@ -21,6 +21,8 @@ use Rattle.racing_mutator.proofs.Allocated.{more-seen, seen-word}
 use Rattle.racing_rooms.proofs.RoomsKept.{rooms-kept}
 use Rattle.racing_rooms.proofs.RoomsNoted.{as-read, has-noted, hole-order}
 use Rattle.racing_mutator.proofs.FreeTaken.{rooms-b, found-b, uses-b, searches-b, takes-b, hole-b}
+use Rattle.racing_mutator.proofs.RegionsMoved.{finds-noted}
+use Rattle.racing_mutator.specs.Regions.{free_block}
 use Rattle.racing_mutator.proofs.racing.Racing.take_free_room.Goals as goal
 
 over-is : (b : Bool) → (b ≡ false → ⊥) → b ≡ true
@@ -146,3 +148,23 @@ returns-then-look_block-clause-regions g c is = ap (λ (n : SeatNotes). regions_
 
 pub returns-then-not-take_free-clause-regions : goal.returns-then-not-take_free-clause-regions
 returns-then-not-take_free-clause-regions g c is = ap (λ (n : SeatNotes). regions_in n.blocks.items n.local) (c.take_free.ensures.notes ∙ c.look_block.ensures.notes)
+
+pub returns-clause-region : goal.returns-clause-region
+returns-clause-region g c done =
+    let is : c.take_free.result ≡ true = search rules in
+    let noted-as = c.notes-notes.ensures ∙ c.take_free.ensures.notes ∙ c.look_block.ensures.notes in
+    let num : ℕ = c.take_free.new.self.seat.now.number in
+    let whole : Region = first_region g.P.Plan.rules.fill (class_for g.P.Plan.rules.fill c.args.size) in
+    let region : c.first_region-region.result ≡ whole = c.first_region-region.ensures ∙ (λ k. first_region (c.alloc_kind-2.ensures k) (class_for (c.alloc_kind-2.ensures k) c.args.size)) in
+    let noted = subst (λ (n : ℕ). NotesOwn c.take_free.new.self.seat.now.notes c.note_own.new.self.seat.now.notes c.overflows-over.result c.args.block n (Owned num whole) None) c.class_for-class.ensures
+    (subst (λ (r : Region). NotesOwn c.take_free.new.self.seat.now.notes c.note_own.new.self.seat.now.notes c.overflows-over.result c.args.block c.class_for-class.result (Owned num r) None) region c.note_own.ensures.notes) in
+    let takes = takes-b g.P.Plan.rules c.args.self.now c.look_block.new.self c.take_free.new.self c.note_own.new.self c.args.block c.args.size c.look_block.result c.take_free.new.self.seat.now.number c.overflows-over.result c.requires.rooms c.requires.block c.requires.most
+    c.look_block.ensures.looks c.look_block.ensures.loaded c.look_block.ensures.notes c.take_free.ensures.makes (c.take_free.ensures.taken is) (c.take_free.ensures.free is) (λ x made. c.take_free.ensures.fresh x is made) (λ o among. c.take_free.ensures.nobody o is among)
+    c.take_free.ensures.notes c.take_free.ensures.ready c.note_own.ensures.known c.note_own.ensures.row c.note_own.ensures.seat (λ over. sym c.alloc_kind.ensures ∙ (c.overflows-over.ensures.yes over).over.lines) noted in
+    finds-noted g.P.Plan.rules c.args.self.now.seat.now c.note_own.new.self.seat.now c.overflows-over.result c.args.block c.args.size num whole None
+    (subst (λ (m : SeatNotes). NotesOwn m c.note_own.new.self.seat.now.notes c.overflows-over.result c.args.block (class_for g.P.Plan.rules.fill c.args.size) (Owned num whole) None) (c.take_free.ensures.notes ∙ c.look_block.ensures.notes) noted)
+    c.requires.rooms c.requires.block
+    (free_block takes.granted
+    (λ yes. as-read (λ f ns x. Overflows f (regions_in ns x) c.args.size) _ _ _ _ _ _ (sym c.alloc_kind.ensures) (sym (c.deref.ensures.value ∙ ap (λ (n : SeatNotes). n.blocks.items) noted-as)) (sym (ap (λ (n : SeatNotes). n.local) noted-as)) (c.overflows-over.ensures.yes yes))
+    (λ overflows. over-is c.overflows-over.result (λ no. c.overflows-over.ensures.no no (as-read (λ f ns x. Overflows f (regions_in ns x) c.args.size) _ _ _ _ _ _ c.alloc_kind.ensures (c.deref.ensures.value ∙ ap (λ (n : SeatNotes). n.blocks.items) noted-as) (ap (λ (n : SeatNotes). n.local) noted-as) overflows)))
+    refl)

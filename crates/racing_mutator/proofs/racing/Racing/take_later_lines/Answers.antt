@@ -1,11 +1,11 @@
 use Rattle.std.proofs.Common.{◌≡◌, ◌≢◌, ◌∙◌, ◌+◌, ◌*◌, ◌<◌, ◌≤◌, sym, refl, ap, subst, ℕ, arith, false, length, [], slice_index, rules}
-use Rattle.std.specs.Prelude.{Option, Some, IfNone, slice_get, slice_set}
+use Rattle.std.specs.Prelude.{Option, Some, IfNone, slice_get}
 use Rattle.std.specs.Vec.{vec_len}
 use lib.ListN.{get_or}
 use Rattle.heap_layout.specs.declared.region.Region.{Region}
 use Rattle.heap_layout.specs.Zones.{LineWords, first}
 use Rattle.heap_layout.specs.declared.block.Kind.TheVariants as kinds
-use Rattle.plan_api.specs.Holes.{HasRoomFrom}
+use Rattle.plan_api.specs.Holes.{HasRoomFrom, IsFirstPart}
 use Rattle.sessions.specs.Fitting.{class_for}
 use Rattle.block_regions.specs.declared.block_notes.BlockNote.TheVariants.{Owned}
 use Rattle.block_regions.proofs.Lists.{get-below}
@@ -17,13 +17,17 @@ use Rattle.mutator_rule.specs.declared.seat_notes.SeatNotes.{SeatNotes}
 use Rattle.mutator_rule.specs.declared.views.EpochStart.{EpochStart}
 use Rattle.mutator_rule.specs.Views.{epoch_with}
 use Rattle.racing_mutator.specs.RacingSeats.{view, local, holdings, epoch_of_racing}
-use Rattle.racing_rooms.specs.Rooms.{Holdings, HasRooms, AllocatesIn, IsOwnRegion}
+use Rattle.racing_rooms.specs.Rooms.{Holdings, AllocatesIn, IsOwnRegion}
 use Rattle.racing_rooms.specs.NoRoom.{LacksOwn}
-use Rattle.racing_mutator.specs.Searches.{HasFound, NotesOwn}
+use Rattle.racing_mutator.specs.Searches.{NotesOwn}
 use Rattle.racing_rooms.proofs.RoomsKept.{rooms-kept}
 use Rattle.racing_rooms.proofs.RoomsNoted.{hole-allocates, same-region}
 use Rattle.racing_mutator.proofs.OwnLacks.{lacks-in-block, none-at-end, none-later, first-later, later-own}
 use Rattle.racing_mutator.proofs.OwnReturns.{note-read, note-is, takes-noted, kept-noted, ready-after, rooms-again, found-again}
+use Rattle.racing_mutator.proofs.RegionsMoved.{finds-noted}
+use Rattle.racing_mutator.specs.Regions.{later_hole}
+use Rattle.local_allocators.specs.NotedRegions.{region_noted}
+use Rattle.block_regions.specs.declared.block_notes.BlockNote.{BlockNote}
 use Rattle.racing_mutator.proofs.racing.Racing.take_later_lines.Goals as goal
 
 pub index-requires : goal.index-requires
@@ -153,3 +157,28 @@ returns-clause-found g c =
     (subst (λ (q : ℕ). IsOwnRegion (epoch_of_racing g.P.Plan.rules c.args.self.now) (holdings (local c.args.self.now)) c.in_ok-block.block q c.in-Owned.region) (sym zero) own)
     left (omega arith) noted (ap (λ (m : SeatNotes). m.local.ticket) (c.notes-3.ensures ∙ c.look_lines-lines.ensures.notes))
     c.args.size first_hole.hole.room
+
+pub returns-clause-region : goal.returns-clause-region
+returns-clause-region g c =
+    let here : block_of (Some c.args.self.now.seat.now.notes.local) 0 ≡ Some c.in_ok-block.block = (λ k. block_of (Some (sym c.notes.ensures k).local) 0) ∙ c.in_ok-block.ensures.some.1 in
+    let items = c.args.self.now.seat.now.notes.blocks.items in
+    let p : Epoch = epoch_of_racing g.P.Plan.rules c.args.self.now in
+    let a : AllocatesIn p (holdings (local c.args.self.now)) items 0 c.in_ok-block.block = hole-allocates _ _ _ items c.args.self.now.seat.now.notes.local _ c.requires.rooms c.in_ok-block.block here in
+    let there : c.in_ok-block.block < length items = get-below items c.in_ok-block.block (Owned a.owner a.region) a.note in
+    let note : slice_get items c.in_ok-block.block ≡ Some (Owned c.in-Owned.owner c.in-Owned.region) =
+    note-read items c.in_ok-block.block c.index.result.now c.in-Owned.owner c.in-Owned.region there (c.index.ensures ∙ (λ k. get_or (c.notes-2.ensures k).blocks.items c.in_ok-block.block c.index.result.now)) c.in-Owned.is in
+    let own : IsOwnRegion p (holdings (local c.args.self.now)) c.in_ok-block.block 0 c.in-Owned.region =
+    subst (λ (r : Region). IsOwnRegion p (holdings (local c.args.self.now)) c.in_ok-block.block 0 r) (same-region items c.in_ok-block.block a.owner c.in-Owned.owner a.region c.in-Owned.region a.note note) a.room in
+    let least : 3 ≤ c.args.size = c.requires.least in
+    let low : c.in-Owned.region.end ≢ 4096 = λ e. omega (arith, e, c.if-region-eq-BLOCK_WORDS.false) in
+    let number : ℕ = c.look_lines-lines.new.self.seat.now.number in
+    let ticket = c.notes-3.result.now.local.ticket in
+    let class : ℕ = class_for g.P.Plan.rules.fill c.args.size in
+    let noted : NotesOwn c.args.self.now.seat.now.notes c.note_own.new.self.seat.now.notes false c.in_ok-block.block class (Owned number c.in_ok-hole.hole) ticket =
+    subst (λ (m : SeatNotes). NotesOwn m c.note_own.new.self.seat.now.notes false c.in_ok-block.block class (Owned number c.in_ok-hole.hole) ticket) c.look_lines-lines.ensures.notes
+    (subst (λ (q : ℕ). NotesOwn c.look_lines-lines.new.self.seat.now.notes c.note_own.new.self.seat.now.notes false c.in_ok-block.block q (Owned number c.in_ok-hole.hole) ticket) c.class_for.ensures c.note_own.ensures.notes) in
+    let first_hole = first-later p (view c.args.self.now) c.requires.ready.own.2 c.in_ok-block.block 0 c.args.size c.in-Owned.region c.look_lines-lines.result (omega (arith, least)) own c.requires.lines c.look_lines-lines.ensures.words low c.in_ok-hole.hole c.in_ok-hole.ensures in
+    let kept = kept-noted g.P.Plan.rules c.args.self.now c.look_lines-lines.new.self c.note_own.new.self c.look_lines-lines.ensures.looks c.look_lines-lines.ensures.births c.look_lines-lines.ensures.ready c.note_own.ensures.known c.note_own.ensures.row c.note_own.ensures.seat in
+    finds-noted g.P.Plan.rules c.args.self.now.seat.now c.note_own.new.self.seat.now false c.in_ok-block.block c.args.size number c.in_ok-hole.hole ticket noted c.requires.rooms a.room.there
+    (later_hole (ap (λ (h : Holdings). h.owned) kept) (c.requires.full c.requires.lines) here refl
+    (subst (λ (o : Option BlockNote). IsFirstPart kinds.Immix p.before c.in_ok-block.block (region_noted o).end c.args.size c.in_ok-hole.hole) (sym note) first_hole))

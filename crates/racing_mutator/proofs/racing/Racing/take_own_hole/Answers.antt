@@ -1,5 +1,4 @@
-use Rattle.std.proofs.Common.{◌≡◌, ◌≢◌, ◌<◌, ◌≤◌, ◌∙◌, sym, ap, subst, refl, ℕ, true, false, arith, below_more, rules}
-use Rattle.heap_layout.specs.declared.block.Kind.{Kind}
+use Rattle.std.proofs.Common.{◌≡◌, ◌≤◌, ◌∙◌, ap, refl, true, false, arith, below_more, rules}
 use Rattle.heap_layout.specs.declared.block.Kind.TheVariants as kinds
 use Rattle.mutator_rule.specs.declared.views.EpochStart.{EpochStart}
 use Rattle.racing_mutator.specs.RacingSeats.{epoch_of_racing}
@@ -7,6 +6,9 @@ use Rattle.racing_rooms.specs.Rooms.{Holdings}
 use Rattle.racing_mutator.proofs.Pinned.{blocks-same}
 use Rattle.racing_mutator.proofs.OwnLacks.{lacks-own}
 use Rattle.racing_mutator.proofs.OwnReturns.{lacks-still, takes-twice, takes-none}
+use Rattle.racing_mutator.proofs.RegionsMoved.{finds-after}
+use Rattle.mutator_rule.specs.declared.seat_notes.SeatNotes.{SeatNotes}
+use Rattle.local_allocators.specs.NotedSeats.{regions_in}
 use Rattle.racing_mutator.proofs.racing.Racing.take_own_hole.Goals as goal
 
 pub loop-block-init : goal.loop-block-init
@@ -37,3 +39,10 @@ returns-clause-lacks g c =
     let least : 3 ≤ c.args.size = c.requires.least in
     lacks-own g.P.Plan.rules c.loop-block.self.seat.now c.args.size c.loop-block.invariant.0.own.2 c.loop-block.invariant.1 (search rules) (omega (arith, least))
     (λ k below. c.loop-block.invariant.5 k (omega (arith, below, end, same, c.loop-block-test.false)))
+
+pub returns-then-return_to-clause-region : goal.returns-then-return_to-clause-region
+returns-then-return_to-clause-region g c =
+    let is : c.return_to.result ≡ true = search rules in
+    let inv = c.loop-block.invariant in
+    finds-after g.P.Plan.rules c.args.self.now.seat.now c.loop-block.self.seat.now c.return_to.new.self.seat.now c.args.size c.loop-block.block inv.2.searches.makes.goes.start
+    (ap (λ (n : SeatNotes). regions_in n.blocks.items n.local) inv.4) (ap (λ (h : Holdings). h.owned) inv.3) (ap (λ (h : Holdings). h.granted) inv.3) (c.return_to.ensures.region is)

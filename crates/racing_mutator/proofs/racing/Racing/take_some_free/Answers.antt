@@ -1,4 +1,4 @@
-use Rattle.std.proofs.Common.{◌≡◌, ◌<◌, ◌∙◌, sym, ap, subst, ℕ, true, false, arith, below_more, rules}
+use Rattle.std.proofs.Common.{◌≡◌, ◌∙◌, sym, ap, subst, true, false, arith, below_more, rules}
 use Rattle.mutator_rule.specs.declared.views.EpochStart.{EpochStart}
 use Rattle.racing_mutator.specs.RacingSeats.{view, epoch_of_racing}
 use Rattle.racing_mutator.proofs.Pinned.{blocks-same}
@@ -7,6 +7,8 @@ use Rattle.racing_rooms.specs.NoRoom.{regions_at}
 use Rattle.sessions.specs.Fitting.{class_for}
 use Rattle.racing_mutator.proofs.RoomTaken.{nothing-of, free-after}
 use Rattle.racing_mutator.proofs.Searched.{searches-both, seen-not-free, ticket-later, some-left}
+use Rattle.racing_mutator.proofs.RegionsMoved.{finds-after}
+use Rattle.racing_rooms.specs.Rooms.{Holdings}
 use Rattle.racing_mutator.proofs.racing.Racing.take_some_free.Goals as goal
 
 pub take_free_room-requires-clause-ticket : goal.take_free_room-requires-clause-ticket
@@ -45,3 +47,10 @@ unreachable-requires g c =
     let same : (epoch_of_racing g.P.Plan.rules c.loop-block.self).before.blocks ≡ (epoch_of_racing g.P.Plan.rules c.args.self.now).before.blocks = ap (λ (s : EpochStart). s.blocks) c.loop-block.invariant.2.makes.goes.start in
     some-left g.P.Plan.rules c.loop-block.self c.loop-block.invariant.0 (ticket-later g.P.Plan.rules c.args.self.now c.loop-block.self c.loop-block.invariant.2 c.loop-block.invariant.3 c.requires.ticket)
     (λ k below. c.loop-block.invariant.4 k (omega (arith, below, end, same, c.loop-block-test.false)))
+
+pub returns-then-take_free_room-clause-region : goal.returns-then-take_free_room-clause-region
+returns-then-take_free_room-clause-region g c =
+    let is : c.take_free_room.result ≡ true = search rules in
+    let inv = c.loop-block.invariant in
+    finds-after g.P.Plan.rules c.args.self.now.seat.now c.loop-block.self.seat.now c.take_free_room.new.self.seat.now c.args.size c.loop-block.block inv.2.makes.goes.start
+    inv.5 (ap (λ (h : Holdings). h.owned) inv.3) (ap (λ (h : Holdings). h.granted) inv.3) (c.take_free_room.ensures.region is)

@@ -1,10 +1,11 @@
-use Rattle.std.proofs.Common.{◌≡◌, ◌<◌, ◌∙◌, sym, ap, ℕ, true, false, arith, below_more, rules}
+use Rattle.std.proofs.Common.{◌≡◌, ◌∙◌, ap, true, false, arith, below_more, rules}
 use Rattle.sessions.specs.Fitting.{class_for}
 use Rattle.mutator_rule.specs.declared.views.EpochStart.{EpochStart}
 use Rattle.racing_mutator.specs.RacingSeats.{epoch_of_racing, Holdings}
 use Rattle.racing_mutator.proofs.Pinned.{blocks-same}
 use Rattle.racing_mutator.proofs.Searched.{searches-both, uses-after}
 use Rattle.racing_mutator.proofs.HolesPassed.{only-nothing, only-both, only-takes, takes-after, lacks-later, lacks-below, regions-unchanged}
+use Rattle.racing_mutator.proofs.RegionsMoved.{finds-after}
 use Rattle.racing_mutator.proofs.racing.Racing.take_some_hole.Goals as goal
 
 pub loop-block-init : goal.loop-block-init
@@ -64,3 +65,10 @@ returns-clause-lacks g c =
     let end : c.blocks-block-end.result ≡ (epoch_of_racing g.P.Plan.rules c.args.self.now).before.blocks = c.blocks-block-end.ensures ∙ ap (λ l. l.blocks) c.layout.ensures ∙ blocks-same g.P.Plan.rules c.args.self.now c.requires.ready in
     let same : (epoch_of_racing g.P.Plan.rules c.loop-block.self).before.blocks ≡ (epoch_of_racing g.P.Plan.rules c.args.self.now).before.blocks = ap (λ (s : EpochStart). s.blocks) c.loop-block.invariant.2.searches.makes.goes.start in
     lacks-below g.P.Plan.rules c.loop-block.self (epoch_of_racing g.P.Plan.rules c.loop-block.self).before.blocks c.args.size c.loop-block.invariant.0.own.2 (omega arith) (λ k below. c.loop-block.invariant.3 k (omega (arith, below, end, same, c.loop-block-test.false)))
+
+pub returns-then-take_hole_in-clause-region : goal.returns-then-take_hole_in-clause-region
+returns-then-take_hole_in-clause-region g c =
+    let is : c.take_hole_in.result ≡ true = search rules in
+    let only = c.loop-block.invariant.2 in
+    finds-after g.P.Plan.rules c.args.self.now.seat.now c.loop-block.self.seat.now c.take_hole_in.new.self.seat.now c.args.size c.loop-block.block only.searches.makes.goes.start
+    (regions-unchanged c.args.self.now.seat.now c.loop-block.self.seat.now only.notes) (ap (λ (h : Holdings). h.owned) only.kept) (ap (λ (h : Holdings). h.granted) only.kept) (c.take_hole_in.ensures.region is)

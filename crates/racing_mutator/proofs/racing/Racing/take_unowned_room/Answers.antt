@@ -1,16 +1,17 @@
-use Rattle.std.proofs.Common.{◌≡◌, ◌∙◌, sym, refl, ap, subst, ℕ, inl, true, false, arith, rules}
-use Rattle.std.specs.Prelude.{Some, None}
+use Rattle.std.proofs.Common.{◌≡◌, ◌∙◌, refl, ap, subst, ℕ, inl, true, false, arith, rules}
 use Rattle.sessions.specs.Fitting.{class_for}
 use Rattle.block_regions.specs.declared.block_notes.BlockNote.TheVariants.{Owned}
-use Rattle.plan_api.specs.Holes.{IsFirstPart}
 use Rattle.plan_api.proofs.BlockViews.{orderly-apart}
 use Rattle.mutator_rule.specs.declared.seat_notes.SeatNotes.{SeatNotes}
-use Rattle.racing_mutator.specs.RacingSeats.{epoch_of_racing, local, holdings}
+use Rattle.racing_mutator.specs.RacingSeats.{epoch_of_racing, local}
 use Rattle.racing_mutator.specs.Searches.{NotesOwn}
 use Rattle.racing_mutator.proofs.Searched.{searches-both, uses-after}
-use Rattle.racing_mutator.proofs.HolesPassed.{only-both, only-missed, missed-rooms, still-noted, only-takes, takes-after, same-start}
+use Rattle.racing_mutator.proofs.HolesPassed.{only-both, only-missed, missed-rooms, still-noted, only-takes, takes-after, same-start, regions-unchanged}
 use Rattle.racing_mutator.proofs.LinesSeen.{first-shown}
 use Rattle.racing_mutator.proofs.HolesTaken.{rooms-b, found-b, uses-b, searches-b, takes-b}
+use Rattle.racing_mutator.proofs.RegionsMoved.{finds-noted, finds-after}
+use Rattle.racing_mutator.specs.Regions.{unowned_hole}
+use Rattle.racing_rooms.specs.Rooms.{Holdings}
 use Rattle.racing_mutator.proofs.racing.Racing.take_unowned_room.Goals as goal
 
 pub take_unowned-requires-clause-word : goal.take_unowned-requires-clause-word
@@ -112,3 +113,23 @@ returns-clause-takes g c done =
     (takes-b g.P.Plan.rules l t b c.args.block c.args.size t.seat.now.number c.in-Some.region c.notes.result.now.local.ticket g.met.P.Plan.fill_has_holes c.look_for_hole.ensures.rooms there (let least = c.requires.least in omega arith)
     c.take_unowned.ensures.makes (c.take_unowned.ensures.taken is) sees.word first (λ x made. c.take_unowned.ensures.fresh x is made) (λ o among. c.take_unowned.ensures.nobody o is among) c.take_unowned.ensures.notes c.take_unowned.ensures.ready
     c.note_own.ensures.known c.note_own.ensures.row c.note_own.ensures.seat (ap (λ (n : SeatNotes). n.local.ticket) c.notes.ensures ∙ ap (λ (n : SeatNotes). n.local.ticket) c.take_unowned.ensures.notes) noted)
+
+pub returns-clause-region : goal.returns-clause-region
+returns-clause-region g c done =
+    let is : c.take_unowned.result ≡ true = search rules in
+    let l = c.look_for_hole.new.self in
+    let t = c.take_unowned.new.self in
+    let b = c.note_own.new.self in
+    let sees = c.in-Some.ensures.sees in
+    let there = same-start g.P.Plan.rules c.args.self.now l c.args.block c.look_for_hole.ensures.only.searches.makes.goes.start c.requires.block in
+    let first = first-shown (epoch_of_racing g.P.Plan.rules l) _ c.args.block c.args.size c.in-Some.region sees (λ v looks. c.take_unowned.ensures.viewed v is looks) (orderly-apart _ c.args.block c.look_for_hole.ensures.ready.own.2.epoch.ready.lawful.but_lines.order) in
+    let noted = subst (λ (n : ℕ). NotesOwn t.seat.now.notes b.seat.now.notes false c.args.block n (Owned t.seat.now.number c.in-Some.region) c.notes.result.now.local.ticket) c.class_for.ensures c.note_own.ensures.notes in
+    let takes = takes-b g.P.Plan.rules l t b c.args.block c.args.size t.seat.now.number c.in-Some.region c.notes.result.now.local.ticket g.met.P.Plan.fill_has_holes c.look_for_hole.ensures.rooms there (let least = c.requires.least in omega arith)
+    c.take_unowned.ensures.makes (c.take_unowned.ensures.taken is) sees.word first (λ x made. c.take_unowned.ensures.fresh x is made) (λ o among. c.take_unowned.ensures.nobody o is among) c.take_unowned.ensures.notes c.take_unowned.ensures.ready
+    c.note_own.ensures.known c.note_own.ensures.row c.note_own.ensures.seat (ap (λ (n : SeatNotes). n.local.ticket) c.notes.ensures ∙ ap (λ (n : SeatNotes). n.local.ticket) c.take_unowned.ensures.notes) noted in
+    let only = c.look_for_hole.ensures.only in
+    finds-after g.P.Plan.rules c.args.self.now.seat.now l.seat.now b.seat.now c.args.size c.args.block only.searches.makes.goes.start
+    (regions-unchanged c.args.self.now.seat.now l.seat.now only.notes) (ap (λ (h : Holdings). h.owned) only.kept) (ap (λ (h : Holdings). h.granted) only.kept)
+    (finds-noted g.P.Plan.rules l.seat.now b.seat.now false c.args.block c.args.size t.seat.now.number c.in-Some.region c.notes.result.now.local.ticket
+    (subst (λ (m : SeatNotes). NotesOwn m b.seat.now.notes false c.args.block (class_for g.P.Plan.rules.fill c.args.size) (Owned t.seat.now.number c.in-Some.region) c.notes.result.now.local.ticket) c.take_unowned.ensures.notes noted)
+    c.look_for_hole.ensures.rooms there (unowned_hole takes.owned takes.granted refl first))

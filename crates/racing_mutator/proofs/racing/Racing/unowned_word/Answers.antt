@@ -1,19 +1,12 @@
-use Rattle.std.proofs.Common.{◌≡◌, ◌≢◌, ◌∙◌, ◌+◌, ◌*◌, ◌/◌, ◌%◌, ◌<◌, ◌≤◌, inl, inr, sym, refl, ap, subst, ℕ, eqb-true, true, false, arith, rules}
-use Rattle.std.proofs.lemmas.Bool.{eqb-false}
-use Rattle.heap_layout.specs.Blocks.{IsValidWord, code_of, kind_code, is_block_code}
+use Rattle.std.proofs.Common.{◌≡◌, ◌∙◌, ◌/◌, ◌%◌, ◌≤◌, inl, sym, ap, subst, ℕ, true, false, arith, rules}
+use Rattle.heap_layout.specs.Blocks.{IsValidWord, code_of, kind_code}
 use Rattle.heap_layout.specs.declared.block.Kind.{Kind}
 use Rattle.heap_layout.specs.declared.block.BlockWord.{BlockWord}
 use Rattle.heap_layout.proofs.BlockLemmas.{kind_code_most}
-use Rattle.object_model.specs.Objects.{block_word, owner_at}
 use Rattle.sessions.specs.Fitting.{class_for}
 use Rattle.sessions.specs.Sessions.{block_of_kind}
 use Rattle.block_regions.proofs.FilledKinds.{filled-valid, class-few}
 use Rattle.mutator_core.specs.declared.state.Local.{Local}
-use Rattle.mutator_rule.specs.declared.views.EpochStart.{EpochStart}
-use Rattle.mutator_rule.specs.declared.seat_notes.SeatNotes.{SeatNotes}
-use Rattle.mutator_rule.specs.Views.{epoch_with}
-use Rattle.racing_mutator.specs.RacingSeats.{epoch_of_racing, view, local}
-use Rattle.racing_mutator.specs.Holes.{IsNotedUnowned}
 use Rattle.racing_mutator.proofs.HolesPassed.{looked-rooms, only-loads, only-both, owner-in, kind-in, still-noted, wrong-kind, wrong-word, right-word, lacks-size}
 use Rattle.racing_mutator.proofs.racing.Racing.unowned_word.Goals as goal
 

@@ -1,14 +1,12 @@
-use Rattle.std.proofs.Common.{◌≡◌, ◌+◌, ◌<◌, sym, ◌∙◌, ap, subst, ℕ, length, rules}
+use Rattle.std.proofs.Common.{◌≡◌, ◌+◌, ◌<◌, sym, ◌∙◌, ℕ, length, rules}
 use Rattle.std.specs.Prelude.{Some, slice_get}
 use lib.ListN.{get_or}
 use Rattle.heap_layout.specs.Zones.{block_start}
-use Rattle.heap_layout.specs.declared.region.Region.{Region}
 use Rattle.object_model.specs.Objects.{size_of}
 use Rattle.sessions.specs.Fitting.{class_for}
 use Rattle.block_regions.specs.declared.block_notes.BlockNote.TheVariants.{Owned}
 use Rattle.block_regions.proofs.Lists.{get-below}
-use Rattle.racing_mutator.specs.RacingSeats.{view, local, epoch_of_racing}
-use Rattle.racing_rooms.specs.Rooms.{holdings, IsOwnRegion}
+use Rattle.racing_mutator.specs.RacingSeats.{view, epoch_of_racing}
 use Rattle.racing_mutator.proofs.Pinned.{blocks-same}
 use Rattle.racing_mutator.proofs.Allocated.{class-suits}
 use Rattle.racing_rooms.proofs.OwnRegions.{may-begin}
