@@ -4,6 +4,7 @@ use Rattle.std.proofs.lemmas.Bool.{cond-true, and_from, eq-eqb}
 use Rattle.trace_core.specs.Setups.{Setup}
 use Rattle.trace_core.specs.Views.{hits, is_pair, without}
 use Rattle.trace_core.proofs.CountedRights.{hits-here}
+use Rattle.trace_words.specs.declared.event.TraceEvent.TheVariants as events
 use Rattle.trace_words.specs.declared.share.Share.{Share}
 use Rattle.trace_words.specs.Shares.{copies_on, gives_scan}
 use Rattle.trace_words.specs.Steps.{MayCopy}
@@ -11,7 +12,7 @@ use Rattle.trace_table.specs.declared.table.TraceTable.{TraceTable}
 use Rattle.trace_table.specs.declared.table.WorkerSeat.{WorkerSeat}
 use Rattle.trace_table.specs.declared.tokens.Won.{Won}
 use Rattle.trace_table.specs.Seats.{IsSeat, Keeps, SameRoom, IsWon, Copying, Copied, Copies}
-use Rattle.trace_table.proofs.SeatShares.{seat-on}
+use Rattle.trace_table.proofs.SeatShares.{seat-on, unmarked-event}
 
 pub first-gone : (x k : ℕ) (l : List (ℕ × ℕ)) → without (is_pair x k) ((x, k) ∷ l) ≡ l
 first-gone x k l = cond-true (is_pair x k (x, k)) l ((x, k) ∷ without (is_pair x k) l) (and_from (nat_eq x x) (nat_eq k k) (eq-eqb x x refl) (eq-eqb k k refl))
@@ -36,6 +37,7 @@ copies-next x k v w u by is = subst (Copying x (k + 1) v) (sym is) (record {
   grey = by.grey;
   copied = by.copied;
   asked = by.asked;
+  unmarked = unmarked-event (events.Copy x) w.made refl ∙ by.unmarked;
 })
 
 -- what the token needs
@@ -58,6 +60,7 @@ copies-given x v w u by is = let b : Share = by.before in let k : ℕ = by.steps
       grey = first-gone x 0 b.grey ∙ c.grey;
       copied = ap (λ l. x ∷ l) c.copied;
       asked = c.asked;
+      unmarked = unmarked-event (events.Copy x) b.made refl ∙ c.unmarked;
     })
 
 -- a seat with the same room, which forgot nothing

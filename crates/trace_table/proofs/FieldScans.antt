@@ -11,13 +11,15 @@ use Rattle.trace_core.specs.CallEvents.{IsNoRoot}
 use Rattle.trace_core.specs.Views.{hits, is_pair, without, steps_at_claim}
 use Rattle.trace_core.proofs.CountedRights.{hits-here, hits-cons, hits-from, hits-without, pair-parts, times-cons, count-append}
 use Rattle.trace_core.proofs.LastValues.{reference-of}
+use Rattle.std.specs.Prelude.{count_by}
+use Rattle.trace_words.specs.declared.event.TraceEvent.TheVariants as events
 use Rattle.trace_words.specs.declared.share.Share.{Share}
 use Rattle.trace_words.specs.Shares.{scans_field, both_shares, scan_token}
 use Rattle.trace_words.specs.Steps.{IsDone, IsLast, MayScan}
 use Rattle.trace_table.specs.declared.tokens.Grey.{Grey}
 use Rattle.trace_table.specs.declared.tokens.Won.{Won}
-use Rattle.trace_table.specs.Seats.{Keeps, Looks, SameRoom, Wins, IsWon, Copies, Pushes, Follows, IsScanning, ScansNoOther, Scans}
-use Rattle.trace_table.proofs.SeatShares.{keeps-trans, looks-not}
+use Rattle.trace_table.specs.Seats.{Keeps, Looks, MarksNoLine, MarksOnly, is_line_mark, SameRoom, Wins, IsWon, Copies, Pushes, Follows, IsScanning, ScansNoOther, Scans}
+use Rattle.trace_table.proofs.SeatShares.{keeps-trans, looks-not, unmarked-event}
 use Rattle.trace_table.proofs.Copyings.{first-gone}
 
 -- the right to copy that a claim gives
@@ -45,8 +47,8 @@ done-copied p x y v w u token done wins copies = record {
 }
 
 -- nothing is pushed
-pub pushes-none : (v w : Share) (out : List Grey) → Looks v w → Pushes v w out out
-pushes-none v w out looks = record {
+pub pushes-marked : (v w : Share) (out : List Grey) → MarksOnly v w → Pushes v w out out
+pushes-marked v w out looks = record {
   keeps = looks.keeps;
   pushed = [];
   targets = All-nil (λ g. 0 < hits g.object g.target w.known);
@@ -57,12 +59,16 @@ pushes-none v w out looks = record {
   asked = looks.asked;
 }
 
+pub pushes-none : (v w : Share) (out : List Grey) → Looks v w → Pushes v w out out
+pushes-none v w out looks = pushes-marked v w out (record { keeps = looks.keeps; gave = looks.gave; took = looks.took; won = looks.won; grey = looks.grey; copied = looks.copied; asked = looks.asked })
+
 pub follows-known : (r t : ℕ) (v w : Share) (out : List Grey) → v.won ≡ [] → Looks v w → 0 < hits r t w.known → Follows r t v w out out
 follows-known r t v w out spent looks known = record {
   pushes = pushes-none v w out looks;
   took = looks.took;
   won = looks.won ∙ spent;
   grey = looks.grey;
+  unmarked = looks.unmarked;
   target = known;
 }
 
@@ -85,6 +91,7 @@ follows-won p r cause none v w u token out out' grey wins copies object target p
   took = copies.took ∙ wins.took;
   won = copies.won;
   grey = copies.grey ∙ wins.grey;
+  unmarked = copies.unmarked ∙ wins.unmarked;
   target = copies.keeps.known r token.target wins.target;
 }
 
@@ -145,6 +152,9 @@ module _ (p : Setup) (x t k : ℕ) where
     rest = λ y j has. is.rest y j (subst (λ l. 0 < hits y j l) (first-gone x (k + 1) (without (is_pair x k) v.grey)) has);
   })
 
+pub unmarked-scanned : (x k : ℕ) (u v w : Share) → w ≡ scans_field x k v → MarksNoLine u v → MarksNoLine u w
+unmarked-scanned x k u v w is before = subst (MarksNoLine u) (sym is) (unmarked-event (events.Scan x) v.made refl ∙ before)
+
 -- a token is taken in: the room is the same, and nothing is forgotten
 pub taken-room : (x t : ℕ) (v w : Share) → w ≡ both_shares v (scan_token x t) → SameRoom v w
 taken-room x t v w is = subst (SameRoom v) (sym is) (record { parts = omega arith; worker = refl; front = refl; limit = refl; filling = refl })
@@ -162,6 +172,9 @@ taken-keeps x t v w is = subst (Keeps v) (sym is) (record {
   busy = λ b has. (let a = count-append (nat_eq b) v.busy [] in omega arith);
   sparse = append-nil v.sparse;
 })
+
+pub unmarked-taken : (x t : ℕ) (v w : Share) → w ≡ both_shares v (scan_token x t) → MarksNoLine v w
+unmarked-taken x t v w is = subst (MarksNoLine v) (sym is) (ap (count_by is_line_mark) (append-nil v.made))
 
 module _ (p : Setup) (x t : ℕ) (v : Share) where
   abbrev both : Share

@@ -7,11 +7,14 @@ use Rattle.trace_core.specs.Setups.{Setup, TraceMayBegin}
 use Rattle.trace_core.specs.Views.{hits, is_pair, without}
 use Rattle.trace_core.proofs.CountedRights.{times-cons, count-append}
 use Rattle.trace_core.proofs.Idle.{one-if-true}
+use Rattle.std.specs.Prelude.{count_by}
+use Rattle.trace_words.specs.declared.event.TraceEvent.TheVariants as events
 use Rattle.trace_words.specs.declared.share.Share.{Share}
 use Rattle.trace_words.specs.Shares.{both_shares, global_token, sets_global}
 use Rattle.trace_words.specs.Steps.{IsDone}
 use Rattle.trace_table.specs.declared.tokens.Grey.{Grey}
-use Rattle.trace_table.specs.Seats.{SameRoom, Follows, IsSetting, Scans, Sets}
+use Rattle.trace_table.specs.Seats.{MarksNoLine, is_line_mark, SameRoom, Follows, IsSetting, Scans, Sets}
+use Rattle.trace_table.proofs.SeatShares.{unmarked-event}
 use Rattle.trace_table.proofs.FieldScans.{scans-none, scans-followed}
 
 -- a list has its first element
@@ -75,11 +78,17 @@ module _ (p : Setup) (g : ℕ) where
 pub room-set : (g : ℕ) (v w : Share) → w ≡ sets_global g v → SameRoom v w
 room-set g v w is = subst (SameRoom v) (sym is) (record { parts = refl; worker = refl; front = refl; limit = refl; filling = refl })
 
+pub unmarked-set : (g : ℕ) (u v w : Share) → w ≡ sets_global g v → MarksNoLine u v → MarksNoLine u w
+unmarked-set g u v w is before = subst (MarksNoLine u) (sym is) (unmarked-event (events.SetGlobal g) v.made refl ∙ before)
+
 pub busy-set : (g : ℕ) (v w : Share) → w ≡ sets_global g v → w.busy ≡ v.busy
 busy-set g v w is = ap (λ (u : Share). u.busy) is
 
 pub room-taken : (g : ℕ) (v w : Share) → w ≡ both_shares v (global_token g) → SameRoom v w
 room-taken g v w is = subst (SameRoom v) (sym is) (record { parts = omega arith; worker = refl; front = refl; limit = refl; filling = refl })
+
+pub unmarked-global : (g : ℕ) (v w : Share) → w ≡ both_shares v (global_token g) → MarksNoLine v w
+unmarked-global g v w is = subst (MarksNoLine v) (sym is) (ap (count_by is_line_mark) (append-nil v.made))
 
 pub busy-taken : (g : ℕ) (v w : Share) → w ≡ both_shares v (global_token g) → w.busy ≡ v.busy
 busy-taken g v w is = ap (λ (u : Share). u.busy) is ∙ append-nil v.busy

@@ -14,11 +14,26 @@ use Rattle.trace_words.specs.Rule.{HasLined}
 use Rattle.trace_words.specs.Shares.{sees_lines, sets_lines}
 use Rattle.trace_words.specs.Steps.{MayMark}
 use Rattle.trace_table.specs.declared.tokens.Grey.{Grey}
-use Rattle.trace_table.specs.Seats.{Keeps, Looks, SameRoom, Scans}
-use Rattle.trace_table.proofs.FieldScans.{pushes-none, scans-trans}
+use Rattle.trace_table.specs.Seats.{Keeps, MarksOnly, SameRoom, Scans}
+use Rattle.trace_table.proofs.SeatShares.{keeps-not, keeps-trans}
+use Rattle.trace_table.proofs.FieldScans.{pushes-marked, scans-trans}
 
-pub looks-lined : (x word mask : ℕ) (v w : Share) → w ≡ sets_lines x word mask v → Looks v w
-looks-lined x word mask v w is = subst (Looks v) (sym is) (record {
+pub marks-not : (v : Share) → MarksOnly v v
+marks-not v = record { keeps = keeps-not v; gave = refl; took = refl; won = refl; grey = refl; copied = refl; asked = refl }
+
+pub marks-trans : (u v w : Share) → MarksOnly u v → MarksOnly v w → MarksOnly u w
+marks-trans u v w a b = record {
+  keeps = keeps-trans u v w a.keeps b.keeps;
+  gave = b.gave ∙ a.gave;
+  took = b.took ∙ a.took;
+  won = b.won ∙ a.won;
+  grey = b.grey ∙ a.grey;
+  copied = b.copied ∙ a.copied;
+  asked = b.asked ∙ a.asked;
+}
+
+pub marks-lined : (x word mask : ℕ) (v w : Share) → w ≡ sets_lines x word mask v → MarksOnly v w
+marks-lined x word mask v w is = subst (MarksOnly v) (sym is) (record {
   keeps = record { parts = refl; token = refl; worker = refl; numbers = refl; unset = refl; last = refl; known = λ y t has. has; lined = λ i m has. hits-more word mask v.lined i m has; busy = λ c has. has; sparse = refl };
   gave = refl;
   took = refl;
@@ -32,8 +47,8 @@ pub room-lined : (x word mask : ℕ) (v w : Share) → w ≡ sets_lines x word m
 room-lined x word mask v w is = subst (SameRoom v) (sym is) (record { parts = refl; worker = refl; front = refl; limit = refl; filling = refl })
 
 -- a look at line bits
-pub looks-seen : (word found : ℕ) (v w : Share) → w ≡ sees_lines word found v → Looks v w
-looks-seen word found v w is = subst (Looks v) (sym is) (record {
+pub marks-seen : (word found : ℕ) (v w : Share) → w ≡ sees_lines word found v → MarksOnly v w
+marks-seen word found v w is = subst (MarksOnly v) (sym is) (record {
   keeps = record { parts = refl; token = refl; worker = refl; numbers = refl; unset = refl; last = refl; known = λ y t has. has; lined = λ i m has. hits-more word found v.lined i m has; busy = λ c has. has; sparse = refl };
   gave = refl;
   took = refl;
@@ -90,5 +105,5 @@ lines-next p v w from to word keeps before here line least most below = elim (ca
 ]
 
 -- marks after a scan
-pub scans-marked : (n : ℕ) (v w u : Share) (a b : List Grey) → Scans n v w a b → Looks w u → Scans n v u a b
-scans-marked n v w u a b scans looks = scans-trans n v w u a b b scans (record { pushes = pushes-none w u b looks; took = (let c = looks.took in omega arith) })
+pub scans-marked : (n : ℕ) (v w u : Share) (a b : List Grey) → Scans n v w a b → MarksOnly w u → Scans n v u a b
+scans-marked n v w u a b scans marks = scans-trans n v w u a b b scans (record { pushes = pushes-marked w u b marks; took = (let c = marks.took in omega arith) })

@@ -10,18 +10,21 @@ use Rattle.trace_core.specs.Outcomes.{base_after_trace}
 use Rattle.trace_core.specs.Setups.{Setup, blocks, collection, held, size, stays_old, may_be_moved}
 use Rattle.trace_core.specs.Machine.{ClaimCause, ByRoot, ByGlobal, ByField}
 use Rattle.trace_core.specs.Views.{hits, steps_at_claim, asked_roots}
-use Rattle.trace_core.proofs.CountedRights.{hits-here, hits-more, times-cons}
+use Rattle.trace_core.proofs.CountedRights.{count-cons, hits-here, hits-more, times-cons}
 use Rattle.trace_core.proofs.Idle.{one-if-true}
+use Rattle.std.specs.Prelude.{List, count_by}
+use Rattle.trace_words.specs.declared.event.TraceEvent.{TraceEvent}
+use Rattle.trace_words.specs.declared.event.TraceEvent.TheVariants as events
 use Rattle.trace_words.specs.declared.share.Share.{Share}
 use Rattle.trace_words.specs.Rule.{SeatShare}
-use Rattle.trace_words.specs.Shares.{learns, sees_busy, claims_here, claims_moved, asks_for}
+use Rattle.trace_words.specs.Shares.{learns, listed_cause, sees_busy, claims_here, claims_moved, asks_for, takes_after_full}
 use Rattle.trace_words.specs.Steps.{MayClaim, LacksRoom, FitsRoom, AsksFor, IsDone}
 use Rattle.trace_table.specs.declared.table.TraceTable.{TraceTable}
 use Rattle.trace_table.specs.declared.table.WorkerSeat.{WorkerSeat}
 use Rattle.trace_table.specs.declared.tokens.Claim.{Claim}
 use Rattle.trace_table.specs.declared.tokens.Claim.TheVariants as claims
 use Rattle.trace_table.specs.declared.tokens.Won.{Won}
-use Rattle.trace_table.specs.Seats.{IsSeat, setup_at, Keeps, Looks, SameRoom, Asks, Wins, IsShapeOf, ClaimsFor}
+use Rattle.trace_table.specs.Seats.{IsSeat, setup_at, Keeps, Looks, MarksOnly, SameRoom, SameBlock, TakesBlockIfNeeded, is_line_mark, Asks, Wins, IsShapeOf, ClaimsFor}
 
 -- the share of a seat that became this
 pub share-is : (a b : SeatShare) → a ≡ b → a.0 ≡ b.0
@@ -100,8 +103,12 @@ keeps-trans u v w a b = record {
   sparse = b.sparse ∙ a.sparse;
 }
 
+-- an event that is no mark of lines
+pub unmarked-event : (e : TraceEvent) (es : List TraceEvent) → is_line_mark e ≡ false → count_by is_line_mark (e ∷ es) ≡ count_by is_line_mark es
+unmarked-event e es other = let all = count-cons is_line_mark e es in let none : one_if (is_line_mark e) ≡ 0 = ap one_if other in omega arith
+
 pub looks-not : (v w : Share) → w ≡ v → Looks v w
-looks-not v w is = subst (Looks v) (sym is) (record { keeps = keeps-not v; gave = refl; took = refl; won = refl; grey = refl; copied = refl; asked = refl })
+looks-not v w is = subst (Looks v) (sym is) (record { keeps = keeps-not v; gave = refl; took = refl; won = refl; grey = refl; copied = refl; asked = refl; unmarked = refl })
 
 pub looks-trans : (u v w : Share) → Looks u v → Looks v w → Looks u w
 looks-trans u v w a b = record {
@@ -112,6 +119,7 @@ looks-trans u v w a b = record {
   grey = b.grey ∙ a.grey;
   copied = b.copied ∙ a.copied;
   asked = b.asked ∙ a.asked;
+  unmarked = b.unmarked ∙ a.unmarked;
 }
 
 pub room-not : (v : Share) → SameRoom v v
@@ -138,6 +146,20 @@ looks-busy b v w is = subst (Looks v) (sym is) (record {
   grey = refl;
   copied = refl;
   asked = refl;
+  unmarked = refl;
+})
+
+-- a block is taken after the last one was full
+pub looks-taken : (p : Setup) (b : ℕ) (v w : Share) → w ≡ takes_after_full p b v → Looks v w
+looks-taken p b v w is = subst (Looks v) (sym is) (record {
+  keeps = record { parts = refl; token = refl; worker = refl; numbers = refl; unset = refl; last = refl; known = λ x t has. has; lined = λ i m has. has; busy = λ c has. has; sparse = refl };
+  gave = refl;
+  took = refl;
+  won = refl;
+  grey = refl;
+  copied = refl;
+  asked = refl;
+  unmarked = unmarked-event (events.TakeBlock b v.worker) v.made refl;
 })
 
 -- a target is learnt
@@ -151,6 +173,7 @@ looks-learnt x t v w is = subst (λ (u : Share). Looks v u × (0 < hits x t u.kn
     grey = refl;
     copied = refl;
     asked = refl;
+    unmarked = refl;
   },
   hits-here x t v.known,
 )
@@ -168,6 +191,7 @@ wins-here p x cause v w token is spent object target lacks shape = subst (λ (u 
   grey = refl;
   copied = refl;
   asked = refl;
+  unmarked = unmarked-event (events.Claim x x (listed_cause cause)) v.made refl;
   target = subst (λ n. 0 < hits x n ((x, x) ∷ v.known)) (sym target) (hits-here x x v.known);
   place = inl (target, λ moves. (let room = lacks moves in record { tight = room.tight; none = room.none }));
   object = object;
@@ -187,11 +211,28 @@ wins-moved p x cause v w token is spent object target room shape = subst (λ (u 
   grey = refl;
   copied = refl;
   asked = refl;
+  unmarked = unmarked-event (events.Claim x v.front (listed_cause cause)) v.made refl;
   target = subst (λ n. 0 < hits x n ((x, v.front) ∷ v.known)) (sym target) (hits-here x v.front v.known);
   place = inr (record { moves = room.moves; front = ap (λ n. n + size p x) (sym target); fits = room.fits });
   object = object;
   shape = shape;
 })
+
+-- no block was taken, and so none without need
+pub block-of-room : (v w : Share) → SameRoom v w → SameBlock v w
+block-of-room v w room = (room.limit, room.filling)
+
+pub block-trans : (u v w : Share) → SameBlock u v → SameBlock v w → SameBlock u w
+block-trans u v w a b = (b.0 ∙ a.0, b.1 ∙ a.1)
+
+pub needed-not : (p : Setup) (x : ℕ) (v w : Share) → SameBlock v w → TakesBlockIfNeeded p x v w
+needed-not p x v w same = record { stays = λ stays. same; fits = λ fits. same }
+
+pub needed-on : (p : Setup) (x : ℕ) (u v w : Share) → TakesBlockIfNeeded p x u v → SameBlock v w → TakesBlockIfNeeded p x u w
+needed-on p x u v w needed same = record {
+  stays = λ stays. block-trans u v w (needed.stays stays) same;
+  fits = λ fits. block-trans u v w (needed.fits fits) same;
+}
 
 -- what a claim needs is so after more looks
 pub asks-on : (p : Setup) (v w : Share) (x : ℕ) (cause : ClaimCause) → Keeps v w → AsksFor p v x cause → AsksFor p w x cause
@@ -235,6 +276,7 @@ claims-after p x cause u v w (claims.Won token) looks by = record {
   grey = by.grey ∙ looks.grey;
   copied = by.copied ∙ looks.copied;
   asked = by.asked ∙ ap (asked_roots x cause) looks.asked;
+  unmarked = by.unmarked ∙ looks.unmarked;
   target = by.target;
   place = by.place;
   object = by.object;
@@ -249,12 +291,12 @@ young-by p x old word young = elim (cases_Bool (stays_old p x)) as (λ _. stays_
   | inr not-old ↦ not-old
 ]
 
--- nothing is left to do after looks
-pub done-known : (p : Setup) (v w : Share) → IsDone p v → Looks v w → IsDone p w
-done-known p v w done looks = record {
-  won = looks.won ∙ done.won;
-  unset = looks.keeps.unset ∙ done.unset;
-  grey = λ x k some. done.grey x k (subst (λ g. 0 < hits x k g) looks.grey some);
+-- nor after marks of lines
+pub done-marked : (p : Setup) (v w : Share) → IsDone p v → MarksOnly v w → IsDone p w
+done-marked p v w done marks = record {
+  won = marks.won ∙ done.won;
+  unset = marks.keeps.unset ∙ done.unset;
+  grey = λ x k some. done.grey x k (subst (λ g. 0 < hits x k g) marks.grey some);
 }
 
 -- a root asks
@@ -267,6 +309,7 @@ asks-known x t v w is = subst (Asks x v) (sym is) (record {
   grey = refl;
   copied = refl;
   asked = refl;
+  unmarked = unmarked-event (events.Ask x) v.made refl;
 })
 
 pub room-asked : (x t : ℕ) (v w : Share) → w ≡ asks_for x t v → SameRoom v w
@@ -282,6 +325,7 @@ asks-after x u v w looks asks = record {
   grey = asks.grey ∙ looks.grey;
   copied = asks.copied ∙ looks.copied;
   asked = asks.asked ∙ ap (λ l. x ∷ l) looks.asked;
+  unmarked = asks.unmarked ∙ looks.unmarked;
 }
 
 -- nothing is left to do after a root asked

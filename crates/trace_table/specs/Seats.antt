@@ -1,5 +1,5 @@
 -- A table, the seats of its workers and its tokens, and what calls do to the share of a seat.
-use Rattle.std.specs.Prelude.{◌≡◌, ◌≢◌, ℕ, ◌+◌, ◌<◌, ◌≤◌, ◌⊎◌, false, IsTrue, List, [], ◌∷◌, ◌++◌, All, length, map}
+use Rattle.std.specs.Prelude.{◌≡◌, ◌≢◌, ℕ, ◌+◌, ◌<◌, ◌≤◌, ◌⊎◌, Bool, true, false, IsTrue, List, [], ◌∷◌, ◌++◌, All, length, map}
 use Rattle.forward_word.specs.CollectorWords.{number_in, is_old_word}
 use Rattle.heap_layout.specs.Zones.{row_words, heap_of, block_start}
 use Rattle.heap_layout.specs.declared.layout.TheConstants.{BLOCK_WORDS, GLOBALS}
@@ -11,8 +11,10 @@ use Rattle.trace_core.specs.Machine.{ClaimCause, ByRoot}
 use Rattle.trace_core.specs.Outcomes.{base_after_trace}
 use Rattle.trace_core.specs.Runs.{IsRunOf}
 use Rattle.trace_core.specs.Views.{hits, is_pair, without, steps_at_claim, asked_roots}
+use Rattle.trace_words.specs.declared.event.TraceEvent.{TraceEvent}
+use Rattle.trace_words.specs.declared.event.TraceEvent.TheVariants as events
 use Rattle.trace_words.specs.declared.share.Share.{Share}
-use Rattle.trace_words.specs.Rule.{SeatShare, setup_in}
+use Rattle.trace_words.specs.Rule.{SeatShare, setup_in, times_made}
 use Rattle.trace_words.specs.Shares.{learns, ends_copy, sets_global, scan_token, global_token, takes_at_any_time}
 use Rattle.trace_words.specs.Steps.{LacksRoom}
 use Rattle.trace_table.specs.declared.table.TraceTable.{TraceTable}
@@ -79,8 +81,16 @@ pub record Keeps (v w : Share) : Type 0 where
   pub busy : (b : ℕ) → 0 < times b v.busy → 0 < times b w.busy
   pub sparse : w.sparse ≡ v.sparse
 
--- nothing but what it knows, its room, and the lines that it marked has changed
-pub record Looks (v w : Share) : Type 0 where
+abbrev pub is_line_mark : TraceEvent → Bool
+is_line_mark (events.MarkLines x word mask) = true
+is_line_mark _ = false
+
+-- the share marked no line
+abbrev pub MarksNoLine : Share → Share → Type 0
+MarksNoLine v w = times_made is_line_mark w ≡ times_made is_line_mark v
+
+-- nothing but what it knows, and the lines that it marked, has changed
+pub record MarksOnly (v w : Share) : Type 0 where
   pub keeps : Keeps v w
   pub gave : w.gave ≡ v.gave
   pub took : w.took ≡ v.took
@@ -89,6 +99,17 @@ pub record Looks (v w : Share) : Type 0 where
   pub copied : w.copied ≡ v.copied
   pub asked : w.asked ≡ v.asked
 
+-- nothing but what it knows, and its room, has changed
+pub record Looks (v w : Share) : Type 0 where
+  pub keeps : Keeps v w
+  pub gave : w.gave ≡ v.gave
+  pub took : w.took ≡ v.took
+  pub won : w.won ≡ v.won
+  pub grey : w.grey ≡ v.grey
+  pub copied : w.copied ≡ v.copied
+  pub asked : w.asked ≡ v.asked
+  pub unmarked : MarksNoLine v w
+
 -- the share has the same room, and its parts and number
 pub record SameRoom (v w : Share) : Type 0 where
   pub parts : w.parts ≡ v.parts
@@ -96,6 +117,15 @@ pub record SameRoom (v w : Share) : Type 0 where
   pub front : w.front ≡ v.front
   pub limit : w.limit ≡ v.limit
   pub filling : w.filling ≡ v.filling
+
+-- the share fills the block that it filled before
+abbrev pub SameBlock : Share → Share → Type 0
+SameBlock v w = (w.limit ≡ v.limit) × (w.filling ≡ v.filling)
+
+-- No block was taken if the object at x may not move, or fits the room.
+pub record TakesBlockIfNeeded (p : Setup) (x : ℕ) (v w : Share) : Type 0 where
+  pub stays : may_be_moved p x ≡ false → SameBlock v w
+  pub fits : v.front + size p x ≤ v.limit → SameBlock v w
 
 -- The share took block b to copy into, after it had looked at those before, which are not Free.
 pub record TakesLowest (p : Setup) (v w : Share) (b : ℕ) : Type 0 where
@@ -134,6 +164,7 @@ pub record Wins (p : Setup) (x : ℕ) (cause : ClaimCause) (v w : Share) (token 
   pub grey : w.grey ≡ v.grey
   pub copied : w.copied ≡ v.copied
   pub asked : w.asked ≡ asked_roots x cause v.asked
+  pub unmarked : MarksNoLine v w
   pub target : 0 < hits x token.target w.known
   pub place : StaysInPlace p x w token ⊎ MovesToFront p x w token
   pub object : token.object ≡ x
@@ -148,6 +179,7 @@ pub record Asks (x : ℕ) (v w : Share) : Type 0 where
   pub grey : w.grey ≡ v.grey
   pub copied : w.copied ≡ v.copied
   pub asked : w.asked ≡ x ∷ v.asked
+  pub unmarked : MarksNoLine v w
 
 -- the share is to copy the object of the token next
 pub record IsWon (p : Setup) (v : Share) (token : Won) : Type 0 where
@@ -166,6 +198,7 @@ pub record Copying (x k : ℕ) (v w : Share) : Type 0 where
   pub grey : w.grey ≡ v.grey
   pub copied : w.copied ≡ v.copied
   pub asked : w.asked ≡ v.asked
+  pub unmarked : MarksNoLine v w
 
 -- the last step was made
 pub record Copied (x : ℕ) (v w : Share) : Type 0 where
@@ -184,6 +217,7 @@ pub record Copies (x : ℕ) (v w : Share) : Type 0 where
   pub grey : w.grey ≡ v.grey
   pub copied : w.copied ≡ x ∷ v.copied
   pub asked : w.asked ≡ v.asked
+  pub unmarked : MarksNoLine v w
 
 -- A claim: the object stays as an old one, or is not old and has its target, which is known, or it
 -- got its target.
@@ -235,6 +269,7 @@ pub record Follows (r t : ℕ) (v w : Share) (before after : List Grey) : Type 0
   pub took : w.took ≡ v.took
   pub won : w.won ≡ []
   pub grey : w.grey ≡ v.grey
+  pub unmarked : MarksNoLine v w
   pub target : 0 < hits r t w.known
 
 -- the share has nothing to do but to scan the object that was at x from field k on

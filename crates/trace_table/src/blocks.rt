@@ -7,7 +7,7 @@ ghost use Rattle.object_model.specs.declared.shape.TheConstants.{MAX_MEDIUM_WORD
 ghost use Rattle.trace_core.specs.Setups.{blocks};
 ghost use Rattle.trace_words.specs.Shares.{takes_at_any_time};
 ghost use Rattle.trace_words.specs.Steps.{SawNoneFree};
-ghost use Rattle.trace_table.specs.Seats.{IsTable, IsSeat, setup_at, Looks, SameRoom, TakesLowest};
+ghost use Rattle.trace_table.specs.Seats.{IsTable, IsSeat, setup_at, Looks, SameRoom, SameBlock, TakesLowest};
 
 use crate::table::{TraceTable, WorkerSeat};
 use heap_layout::{BLOCK_WORDS, BlockWord, FIRST_WORKER_OWNER, encode};
@@ -82,6 +82,8 @@ impl TraceTable {
         requires few { words ≤ MAX_MEDIUM_WORDS }
         ensures seat { IsSeat self.now seat.new }
         ensures looks { Looks seat.old.seat.me.0 seat.new.seat.me.0 }
+        ensures fits { seat.old.front + words ≤ seat.old.limit
+            → SameBlock seat.old.seat.me.0 seat.new.seat.me.0 }
         ensures room { IsTrue result → seat.new.front + words ≤ seat.new.limit }
         ensures none { result ≡ false → (seat.new.limit < seat.new.front + words)
             × SawNoneFree (setup_at self.now) seat.new.seat.me.0 }

@@ -6,7 +6,7 @@ ghost use Rattle.trace_core.specs.Machine.{ByRoot};
 ghost use Rattle.trace_core.specs.Setups.{may_be_moved, refs as refs_of, size};
 ghost use Rattle.trace_words.specs.Steps.{MayClaim, LacksRoom, FitsRoom, AsksFor};
 ghost use Rattle.trace_core.specs.Views.{hits};
-ghost use Rattle.trace_table.specs.Seats.{IsTable, IsSeat, setup_at, Asks, ClaimsFor, ClaimsRoot};
+ghost use Rattle.trace_table.specs.Seats.{IsTable, IsSeat, setup_at, Asks, ClaimsFor, ClaimsRoot, SameRoom, SameBlock, TakesBlockIfNeeded};
 
 use crate::table::{TraceTable, WorkerSeat};
 use crate::tokens::{Claim, Found, Won};
@@ -26,6 +26,8 @@ impl TraceTable {
         ensures seat { IsSeat self.now seat.new }
         ensures claims { ClaimsRoot (setup_at self.now) x seat.old.seat.me.0 seat.new.seat.me.0
             result }
+        ensures block { TakesBlockIfNeeded (setup_at self.now) x seat.old.seat.me.0
+            seat.new.seat.me.0 }
     {
         match self.claim_for::<Brand>(seat, x) {
             Claim::Old => {
@@ -48,6 +50,7 @@ impl TraceTable {
         requires knows { 0 < hits x target seat.old.seat.me.0.known }
         ensures seat { IsSeat self.now seat.new }
         ensures asks { Asks x seat.old.seat.me.0 seat.new.seat.me.0 }
+        ensures room { SameRoom seat.old.seat.me.0 seat.new.seat.me.0 }
     {
         self.ask_known::<Brand>(seat, x, target);
     }
@@ -61,6 +64,7 @@ impl TraceTable {
         requires knows { 0 < hits C.object C.target seat.old.seat.me.0.known }
         ensures seat { IsSeat self.now seat.new }
         ensures asks { Asks x seat.old.seat.me.0 seat.new.seat.me.0 }
+        ensures room { SameRoom seat.old.seat.me.0 seat.new.seat.me.0 }
     {
         ask::<C>(&self.row.words, &mut seat.seat, x);
     }
@@ -77,6 +81,8 @@ impl TraceTable {
         ensures seat { IsSeat self.now seat.new }
         ensures claims { ClaimsFor C.setup C.object C.cause seat.old.seat.me.0
             seat.new.seat.me.0 result }
+        ensures block { TakesBlockIfNeeded C.setup C.object seat.old.seat.me.0
+            seat.new.seat.me.0 }
     {
         match self.find::<C>(&mut seat.seat, x) {
             Found::Old => Claim::Old,
@@ -96,6 +102,8 @@ impl TraceTable {
         ensures seat { IsSeat self.now seat.new }
         ensures claims { ClaimsFor C.setup C.object C.cause seat.old.seat.me.0
             seat.new.seat.me.0 result }
+        ensures block { TakesBlockIfNeeded C.setup C.object seat.old.seat.me.0
+            seat.new.seat.me.0 }
     {
         let shape = self.shape::<C>(&mut seat.seat, x);
         let words = size_words(&shape);
@@ -130,6 +138,7 @@ impl TraceTable {
         ensures seat { IsSeat self.now seat.new }
         ensures claims { ClaimsFor C.setup C.object C.cause seat.old.seat.me.0
             seat.new.seat.me.0 result }
+        ensures block { SameBlock seat.old.seat.me.0 seat.new.seat.me.0 }
     {
         let new = encode(self.run.number, x);
         let met = claim_in_place::<C>(&self.row.words, &mut seat.seat, x, word, new);
@@ -163,6 +172,7 @@ impl TraceTable {
         ensures seat { IsSeat self.now seat.new }
         ensures claims { ClaimsFor C.setup C.object C.cause seat.old.seat.me.0
             seat.new.seat.me.0 result }
+        ensures block { SameBlock seat.old.seat.me.0 seat.new.seat.me.0 }
     {
         let target = seat.front;
         let new = encode(self.run.number, target);

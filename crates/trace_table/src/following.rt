@@ -4,7 +4,7 @@ ghost use Rattle.std.specs.Prelude.{◌≡◌, ◌+◌, ◌<◌, ◌≤◌, All,
 ghost use Rattle.object_model.specs.Objects.{IsHeld};
 ghost use Rattle.trace_core.specs.CallEvents.{IsNoRoot};
 ghost use Rattle.trace_words.specs.Steps.{AsksFor};
-ghost use Rattle.trace_table.specs.Seats.{IsTable, IsSeat, IsGrey, setup_at, Follows};
+ghost use Rattle.trace_table.specs.Seats.{IsTable, IsSeat, IsGrey, setup_at, Follows, TakesBlockIfNeeded};
 
 use crate::table::{TraceTable, WorkerSeat};
 use crate::tokens::{Claim, Grey};
@@ -26,6 +26,8 @@ impl TraceTable {
         ensures seat { IsSeat self.now seat.new }
         ensures follows { Follows C.object result seat.old.seat.me.0 seat.new.seat.me.0
             out.old.items out.new.items }
+        ensures block { TakesBlockIfNeeded C.setup C.object seat.old.seat.me.0
+            seat.new.seat.me.0 }
         ensures tokens { All (IsGrey self.now) out.old.items
             → All (IsGrey self.now) out.new.items }
         ensures more { vec_len out.new ≤ vec_len out.old + 1 }
@@ -51,6 +53,8 @@ impl TraceTable {
         ensures seat { IsSeat self.now seat.new }
         ensures follows { Follows C.object result seat.old.seat.me.0 seat.new.seat.me.0
             out.old.items out.new.items }
+        ensures block { TakesBlockIfNeeded C.setup C.object seat.old.seat.me.0
+            seat.new.seat.me.0 }
         ensures tokens { All (IsGrey self.now) out.old.items
             → All (IsGrey self.now) out.new.items }
         ensures more { vec_len out.new ≤ vec_len out.old + 1 }

@@ -9,7 +9,7 @@ ghost use Rattle.object_model.specs.Times.{times};
 ghost use Rattle.trace_core.specs.Machine.{ByGlobal};
 ghost use Rattle.trace_words.specs.Shares.{gives_global};
 ghost use Rattle.trace_words.specs.Steps.{AsksFor, IsDone};
-ghost use Rattle.trace_table.specs.Seats.{IsTable, IsSeat, IsGrey, IsGlobalRoot, setup_at, Follows, IsSetting, Sets, Scans};
+ghost use Rattle.trace_table.specs.Seats.{IsTable, IsSeat, IsGrey, IsGlobalRoot, setup_at, Follows, TakesBlockIfNeeded, IsSetting, Sets, Scans, MarksNoLine};
 ghost use Rattle.trace_table.specs.Ends.{left_share, SameTrace, SameTable};
 
 use crate::table::{TraceTable, WorkerSeat};
@@ -85,6 +85,7 @@ impl TraceTable {
             out.new.items }
         ensures set { 0 < times root.global seat.new.seat.me.0.set }
         ensures grey { seat.new.seat.me.0.grey ≡ seat.old.seat.me.0.grey }
+        ensures unmarked { MarksNoLine seat.old.seat.me.0 seat.new.seat.me.0 }
         ensures tokens { All (IsGrey self.now) out.new.items }
         ensures more { vec_len out.new ≤ vec_len out.old + 1 }
         ensures capacity { vec_capacity out.new ≡ vec_capacity out.old }
@@ -110,6 +111,7 @@ impl TraceTable {
         ensures sets { Sets C.index seat.old.seat.me.0 seat.new.seat.me.0 out.old.items
             out.new.items }
         ensures grey { seat.new.seat.me.0.grey ≡ seat.old.seat.me.0.grey }
+        ensures unmarked { MarksNoLine seat.old.seat.me.0 seat.new.seat.me.0 }
         ensures tokens { All (IsGrey self.now) out.old.items
             → All (IsGrey self.now) out.new.items }
         ensures more { vec_len out.new ≤ vec_len out.old + 1 }
@@ -148,6 +150,8 @@ impl TraceTable {
         ensures seat { IsSeat self.now seat.new }
         ensures follows { Follows C.object result seat.old.seat.me.0 seat.new.seat.me.0
             out.old.items out.new.items }
+        ensures block { TakesBlockIfNeeded C.setup C.object seat.old.seat.me.0
+            seat.new.seat.me.0 }
         ensures tokens { All (IsGrey self.now) out.old.items
             → All (IsGrey self.now) out.new.items }
         ensures more { vec_len out.new ≤ vec_len out.old + 1 }

@@ -8,7 +8,7 @@ ghost use Rattle.side_meta.specs.declared.word.TheConstants.{BITS_PER_WORD};
 ghost use Rattle.trace_core.specs.Setups.{blocks, size as size_of_object};
 ghost use Rattle.trace_core.specs.Views.{hits};
 ghost use Rattle.trace_words.specs.Rule.{HasLined};
-ghost use Rattle.trace_table.specs.Seats.{IsTable, IsSeat, IsGrey, setup_at, Looks};
+ghost use Rattle.trace_table.specs.Seats.{IsTable, IsSeat, IsGrey, setup_at, MarksOnly};
 
 use crate::table::{TraceTable, WorkerSeat};
 use crate::tokens::Grey;
@@ -27,7 +27,7 @@ impl TraceTable {
         requires grey { IsGrey self.now grey.now }
         requires knows { 0 < hits grey.now.object grey.now.target seat.old.seat.me.0.known }
         ensures seat { IsSeat self.now seat.new }
-        ensures looks { Looks seat.old.seat.me.0 seat.new.seat.me.0 }
+        ensures marks { MarksOnly seat.old.seat.me.0 seat.new.seat.me.0 }
         ensures lines { (line : ℕ)
             → TouchesLine (blocks (setup_at self.now)) grey.now.target grey.now.size line
             → HasLined (setup_at self.now) seat.new.seat.me.0 line }
@@ -44,7 +44,7 @@ impl TraceTable {
         requires start { heap_of (blocks (setup_at self.now)) ≤ target }
         requires within { target + words ≤ row_words (blocks (setup_at self.now)) }
         ensures seat { IsSeat self.now seat.new }
-        ensures looks { Looks seat.old.seat.me.0 seat.new.seat.me.0 }
+        ensures marks { MarksOnly seat.old.seat.me.0 seat.new.seat.me.0 }
         ensures lines { (line : ℕ)
             → TouchesLine (blocks (setup_at self.now)) target words line
             → HasLined (setup_at self.now) seat.new.seat.me.0 line }
@@ -79,7 +79,7 @@ impl TraceTable {
             (target + size_of_object C.setup C.object - 1) }
         requires word { (first / BITS_PER_WORD ≤ word) × (word ≤ last / BITS_PER_WORD) }
         ensures seat { IsSeat self.now seat.new }
-        ensures looks { Looks seat.old.seat.me.0 seat.new.seat.me.0 }
+        ensures marks { MarksOnly seat.old.seat.me.0 seat.new.seat.me.0 }
         ensures lines { (line : ℕ) → first ≤ line → line ≤ last
             → line / BITS_PER_WORD ≡ word
             → HasLined C.setup seat.new.seat.me.0 line }

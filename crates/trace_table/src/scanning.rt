@@ -1,14 +1,14 @@
 //! Scans: fields get their last values, one after the other.
 //! A field whose reference stays is loaded once more in place of its store.
 
-ghost use Rattle.std.specs.Prelude.{◌≡◌, ◌≢◌, ℕ, ◌+◌, ◌<◌, ◌≤◌, IsTrue, All, [], length, vec_len, vec_capacity};
+ghost use Rattle.std.specs.Prelude.{◌≡◌, ◌≢◌, ℕ, ◌+◌, ◌<◌, ◌≤◌, IsTrue, false, All, [], length, vec_len, vec_capacity};
 ghost use Rattle.object_model.specs.Lines.{TouchesLine};
 ghost use Rattle.object_model.specs.Objects.{IsHeld};
 ghost use Rattle.trace_core.specs.Machine.{ByField};
 ghost use Rattle.trace_core.specs.Setups.{blocks, refs as refs_of};
 ghost use Rattle.trace_words.specs.Rule.{HasLined};
 ghost use Rattle.trace_words.specs.Steps.{AsksFor, IsDone};
-ghost use Rattle.trace_table.specs.Seats.{IsTable, IsSeat, IsGrey, setup_at, Follows, IsScanning, ScansNoOther, Scans};
+ghost use Rattle.trace_table.specs.Seats.{IsTable, IsSeat, IsGrey, setup_at, Follows, TakesBlockIfNeeded, IsScanning, ScansNoOther, Scans, MarksNoLine};
 ghost use Rattle.trace_core.specs.Views.{hits};
 
 use crate::table::{TraceTable, WorkerSeat};
@@ -40,6 +40,8 @@ impl TraceTable {
         ensures lines { IsTrue self.now.run.lines → (line : ℕ)
             → TouchesLine (blocks (setup_at self.now)) grey.target grey.size line
             → HasLined (setup_at self.now) seat.new.seat.me.0 line }
+        ensures unmarked { self.now.run.lines ≡ false
+            → MarksNoLine seat.old.seat.me.0 seat.new.seat.me.0 }
         ensures tokens { All (IsGrey self.now) out.new.items }
         ensures capacity { vec_capacity out.new ≡ vec_capacity out.old }
     {
@@ -84,6 +86,7 @@ impl TraceTable {
         ensures scans { Scans 0 seat.old.seat.me.0 seat.new.seat.me.0 out.old.items
             out.new.items }
         ensures others { ScansNoOther C.object seat.old.seat.me.0 seat.new.seat.me.0 }
+        ensures unmarked { MarksNoLine seat.old.seat.me.0 seat.new.seat.me.0 }
         ensures tokens { All (IsGrey self.now) out.old.items
             → All (IsGrey self.now) out.new.items }
         ensures more { vec_len out.new ≤ vec_len out.old + 1 }
@@ -124,6 +127,8 @@ impl TraceTable {
         ensures seat { IsSeat self.now seat.new }
         ensures follows { Follows C.object result seat.old.seat.me.0 seat.new.seat.me.0
             out.old.items out.new.items }
+        ensures block { TakesBlockIfNeeded C.setup C.object seat.old.seat.me.0
+            seat.new.seat.me.0 }
         ensures tokens { All (IsGrey self.now) out.old.items
             → All (IsGrey self.now) out.new.items }
         ensures more { vec_len out.new ≤ vec_len out.old + 1 }

@@ -268,3 +268,24 @@ fn two_workers_trace_a_heap(rt: HostRuntime) -> Result<(), Fail> {
     }
     Ok(())
 }
+
+// A worker takes the Free blocks in rising order, and then none.
+fn take_blocks(rt: &impl Abort, alloc: Global) -> Result<(), Fail> {
+    let heap = worked_heap(alloc)?;
+    let run = worked_run(alloc)?;
+    let (table, mut seats) = TraceTable::begin(alloc, heap, run, 1)?;
+    let Some(mut seat) = seats.pop() else {
+        panic!(rt; "no seat");
+    };
+    let first = table.take_copy_block(&mut seat);
+    let second = table.take_copy_block(&mut seat);
+    let third = table.take_copy_block(&mut seat);
+    let none = table.take_copy_block(&mut seat);
+    assert!(rt; first == Some(1) && second == Some(2) && third == Some(3) && none.is_none());
+    Ok(())
+}
+
+#[test]
+fn a_worker_takes_copy_blocks(rt: HostRuntime) -> Result<(), Fail> {
+    take_blocks(&rt, rt.alloc())
+}

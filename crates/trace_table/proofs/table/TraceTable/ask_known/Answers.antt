@@ -14,3 +14,6 @@ returns-clause-seat g c = let v : Share = c.args.seat.now.seat.me.0 in let is = 
 
 pub returns-clause-asks : goal.returns-clause-asks
 returns-clause-asks g c = subst (λ x. Asks x c.args.seat.now.seat.me.0 c.ask.new.seat.me.0) (sym c.requires.about.1) (asks-known g.C.About.object g.C.About.target _ _ (share-is _ _ c.ask.ensures.share))
+
+pub returns-clause-room : goal.returns-clause-room
+returns-clause-room g c = room-asked g.C.About.object g.C.About.target c.args.seat.now.seat.me.0 _ (share-is _ _ c.ask.ensures.share)

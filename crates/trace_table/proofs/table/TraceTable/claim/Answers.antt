@@ -2,7 +2,7 @@ use Rattle.std.proofs.Common.{subst}
 use Rattle.trace_core.specs.Machine.{ByRoot}
 use Rattle.trace_table.specs.declared.tokens.Claim.{Claim}
 use Rattle.trace_table.specs.Seats.{setup_at, ClaimsFor}
-use Rattle.trace_table.proofs.SeatShares.{asks-after}
+use Rattle.trace_table.proofs.SeatShares.{asks-after, block-of-room, needed-on}
 use Rattle.trace_table.proofs.table.TraceTable.claim.Goals as goal
 
 pub ask-requires-clause-knows : goal.ask-requires-clause-knows
@@ -26,3 +26,9 @@ returns-in-Seen-clause-claims c =
 pub returns-in-Won-clause-claims : goal.returns-in-Won-clause-claims
 returns-in-Won-clause-claims c =
     subst (λ (a : Claim). ClaimsFor (setup_at c.args.self.now) c.args.x ByRoot c.args.seat.now.seat.me.0 c.claim_for.new.seat.seat.me.0 a) c.in-Won.is c.claim_for.ensures.claims
+
+pub returns-in-Old-clause-block : goal.returns-in-Old-clause-block
+returns-in-Old-clause-block c = needed-on (setup_at c.args.self.now) c.args.x c.args.seat.now.seat.me.0 c.claim_for.new.seat.seat.me.0 _ c.claim_for.ensures.block (block-of-room c.claim_for.new.seat.seat.me.0 _ c.ask.ensures.room)
+
+pub returns-in-Seen-clause-block : goal.returns-in-Seen-clause-block
+returns-in-Seen-clause-block c = needed-on (setup_at c.args.self.now) c.args.x c.args.seat.now.seat.me.0 c.claim_for.new.seat.seat.me.0 _ c.claim_for.ensures.block (block-of-room c.claim_for.new.seat.seat.me.0 _ c.ask-in-Seen.ensures.room)

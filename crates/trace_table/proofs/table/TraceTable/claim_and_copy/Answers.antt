@@ -5,6 +5,7 @@ use Rattle.trace_words.specs.declared.share.Share.{Share}
 use Rattle.trace_table.specs.declared.tokens.Claim.{Claim}
 use Rattle.trace_table.specs.declared.tokens.Grey.{Grey}
 use Rattle.trace_table.specs.Seats.{ClaimsFor, Follows, IsGrey, IsWon}
+use Rattle.trace_table.proofs.SeatShares.{block-of-room, needed-on}
 use Rattle.trace_table.proofs.FieldScans.{follows-known, follows-won, won-of}
 use Rattle.trace_table.proofs.table.TraceTable.claim_and_copy.Goals as goal
 
@@ -33,3 +34,6 @@ returns-in-Won-clause-follows g c = let v : Share = c.args.seat.now.seat.me.0 in
 pub returns-in-Won-clause-tokens : goal.returns-in-Won-clause-tokens
 returns-in-Won-clause-tokens g c all = let P : Grey → Type 0 = IsGrey c.args.self.now in
     subst (All P) (sym c.push_reserved.ensures.items) (All-append P c.args.out.now.items (c.copy-grey.result ∷ []) all (All-cons P c.copy-grey.result [] c.copy-grey.ensures.grey (All-nil P)))
+
+pub returns-in-Won-clause-block : goal.returns-in-Won-clause-block
+returns-in-Won-clause-block g c = needed-on g.C.About.setup g.C.About.object c.args.seat.now.seat.me.0 c.claim_for.new.seat.seat.me.0 _ c.claim_for.ensures.block (block-of-room c.claim_for.new.seat.seat.me.0 _ c.copy-grey.ensures.copies.room)

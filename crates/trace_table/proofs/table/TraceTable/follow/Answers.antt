@@ -1,8 +1,8 @@
 use Rattle.std.proofs.Common.{◌∙◌, refl, sym, ap, subst}
 use Rattle.trace_words.specs.declared.share.Share.{Share}
 use Rattle.trace_words.specs.Steps.{AsksFor}
-use Rattle.trace_table.specs.Seats.{Follows}
-use Rattle.trace_table.proofs.SeatShares.{share-is, seat-same, seat-learnt, looks-learnt}
+use Rattle.trace_table.specs.Seats.{Follows, TakesBlockIfNeeded}
+use Rattle.trace_table.proofs.SeatShares.{share-is, seat-same, seat-learnt, looks-learnt, room-learnt, block-of-room, needed-not}
 use Rattle.trace_table.proofs.FieldScans.{follows-known}
 use Rattle.trace_table.proofs.table.TraceTable.follow.Goals as goal
 
@@ -28,3 +28,11 @@ claim_and_copy-requires-clause-asks g c = subst (λ (u : Share). AsksFor g.C.Abo
 pub returns-clause-follows : goal.returns-clause-follows
 returns-clause-follows g c = subst (λ (u : Share). Follows g.C.About.object c.claim_and_copy.result u c.claim_and_copy.new.seat.seat.me.0 c.args.out.now.items c.claim_and_copy.new.out.items)
     (share-is _ _ (c.is_marked.ensures.clear c.if-is_marked.false)) c.claim_and_copy.ensures.follows
+
+pub returns-then-is_marked-clause-block : goal.returns-then-is_marked-clause-block
+returns-then-is_marked-clause-block g c = let v : Share = c.args.seat.now.seat.me.0 in
+    needed-not g.C.About.setup g.C.About.object v _ (block-of-room v _ (room-learnt g.C.About.object g.C.About.object v _ (share-is _ _ (c.is_marked.ensures.marked c.if-is_marked.true))))
+
+pub returns-clause-block : goal.returns-clause-block
+returns-clause-block g c = subst (λ (u : Share). TakesBlockIfNeeded g.C.About.setup g.C.About.object u c.claim_and_copy.new.seat.seat.me.0)
+    (share-is _ _ (c.is_marked.ensures.clear c.if-is_marked.false)) c.claim_and_copy.ensures.block

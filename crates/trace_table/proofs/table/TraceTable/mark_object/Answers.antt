@@ -1,25 +1,24 @@
-use Rattle.std.proofs.Common.{◌≡◌, ℕ, ◌+◌, ◌-◌, ◌/◌, ◌≤◌, refl, ap, ◌∙◌, subst, arith}
+use Rattle.std.proofs.Common.{◌≡◌, ℕ, ◌+◌, ◌-◌, ◌/◌, ◌≤◌, ap, ◌∙◌, subst, arith}
 use Rattle.heap_layout.specs.Zones.{line_at, row_words}
 use Rattle.object_model.specs.Lines.{TouchesLine}
 use Rattle.trace_core.specs.Setups.{Setup, blocks, size}
 use Rattle.trace_table.specs.Seats.{setup_at}
-use Rattle.trace_table.proofs.SeatShares.{looks-not, looks-trans}
-use Rattle.trace_table.proofs.MarkedLines.{touched-between, lines-next}
+use Rattle.trace_table.proofs.MarkedLines.{marks-not, marks-trans, touched-between, lines-next}
 use Rattle.trace_table.proofs.table.TraceTable.mark_object.Goals as goal
 
 pub loop-word-init : goal.loop-word-init
 loop-word-init c = record {
   seat = c.requires.seat;
-  looks = looks-not c.args.seat.now.seat.me.0 c.args.seat.now.seat.me.0 refl;
+  marks = marks-not c.args.seat.now.seat.me.0;
   lines = λ line least most below. absurd (omega arith);
 }
 
 pub loop-word-preserved : goal.loop-word-preserved
 loop-word-preserved c = let i = c.loop-word.invariant in record {
   seat = c.mark_word.ensures.seat;
-  looks = looks-trans _ _ _ i.looks c.mark_word.ensures.looks;
+  marks = marks-trans _ _ _ i.marks c.mark_word.ensures.marks;
   lines = lines-next (setup_at c.args.self.now) c.loop-word.seat.seat.me.0 c.mark_word.new.seat.seat.me.0 c.line_of-first.result c.line_of-last.result c.loop-word.word
-      c.mark_word.ensures.looks.keeps i.lines c.mark_word.ensures.lines;
+      c.mark_word.ensures.marks.keeps i.lines c.mark_word.ensures.lines;
 }
 
 pub returns-clause-lines : goal.returns-clause-lines

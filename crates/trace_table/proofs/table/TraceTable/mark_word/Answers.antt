@@ -3,9 +3,9 @@ use Rattle.heap_layout.specs.Zones.{LineWords, first, heap_of, line_at, row_word
 use Rattle.trace_core.specs.Setups.{Setup, blocks, size}
 use Rattle.trace_core.specs.Views.{hits}
 use Rattle.trace_words.specs.declared.share.Share.{Share}
-use Rattle.trace_table.proofs.SeatShares.{share-is, looks-trans, room-trans}
+use Rattle.trace_table.proofs.SeatShares.{share-is, room-trans}
 use Rattle.trace_table.proofs.Copyings.{seat-kept}
-use Rattle.trace_table.proofs.MarkedLines.{may-mark, looks-lined, room-lined, looks-seen, room-seen, lined-word}
+use Rattle.trace_table.proofs.MarkedLines.{marks-trans, may-mark, marks-lined, room-lined, marks-seen, room-seen, lined-word}
 use Rattle.trace_table.proofs.table.TraceTable.mark_word.Goals as goal
 
 pub mark_lines-requires-clause-may : goal.mark_lines-requires-clause-may
@@ -23,10 +23,10 @@ mark_lines-requires-clause-may g c = let p : Setup = g.C.About.setup in let x : 
 
 pub returns-then-has_all-clause-seat : goal.returns-then-has_all-clause-seat
 returns-then-has_all-clause-seat g c = let is = share-is _ _ c.look_at_lines-marked.ensures.lines in
-    seat-kept c.args.self.now c.args.seat.now _ c.requires.seat c.look_at_lines-marked.ensures.own refl refl refl refl (room-seen _ _ _ _ is) (looks-seen _ _ _ _ is).keeps
+    seat-kept c.args.self.now c.args.seat.now _ c.requires.seat c.look_at_lines-marked.ensures.own refl refl refl refl (room-seen _ _ _ _ is) (marks-seen _ _ _ _ is).keeps
 
-pub returns-then-has_all-clause-looks : goal.returns-then-has_all-clause-looks
-returns-then-has_all-clause-looks g c = looks-seen _ _ _ _ (share-is _ _ c.look_at_lines-marked.ensures.lines)
+pub returns-then-has_all-clause-marks : goal.returns-then-has_all-clause-marks
+returns-then-has_all-clause-marks g c = marks-seen _ _ _ _ (share-is _ _ c.look_at_lines-marked.ensures.lines)
 
 pub returns-then-has_all-clause-lines : goal.returns-then-has_all-clause-lines
 returns-then-has_all-clause-lines g c = let p : Setup = g.C.About.setup in let x : ℕ = g.C.About.object in let t : ℕ = g.C.About.target in
@@ -42,10 +42,10 @@ returns-then-has_all-clause-lines g c = let p : Setup = g.C.About.setup in let x
 pub returns-clause-seat : goal.returns-clause-seat
 returns-clause-seat g c = let seen = share-is _ _ c.look_at_lines-marked.ensures.lines in let is = share-is _ _ c.mark_lines.ensures.share in
     seat-kept c.args.self.now c.args.seat.now _ c.requires.seat (c.mark_lines.ensures.own ∙ c.look_at_lines-marked.ensures.own) refl refl refl refl
-    (room-trans _ _ _ (room-seen _ _ _ _ seen) (room-lined g.C.About.object _ _ _ _ is)) (looks-trans _ _ _ (looks-seen _ _ _ _ seen) (looks-lined g.C.About.object _ _ _ _ is)).keeps
+    (room-trans _ _ _ (room-seen _ _ _ _ seen) (room-lined g.C.About.object _ _ _ _ is)) (marks-trans _ _ _ (marks-seen _ _ _ _ seen) (marks-lined g.C.About.object _ _ _ _ is)).keeps
 
-pub returns-clause-looks : goal.returns-clause-looks
-returns-clause-looks g c = looks-trans _ _ _ (looks-seen _ _ _ _ (share-is _ _ c.look_at_lines-marked.ensures.lines)) (looks-lined g.C.About.object _ _ _ _ (share-is _ _ c.mark_lines.ensures.share))
+pub returns-clause-marks : goal.returns-clause-marks
+returns-clause-marks g c = marks-trans _ _ _ (marks-seen _ _ _ _ (share-is _ _ c.look_at_lines-marked.ensures.lines)) (marks-lined g.C.About.object _ _ _ _ (share-is _ _ c.mark_lines.ensures.share))
 
 pub returns-clause-lines : goal.returns-clause-lines
 returns-clause-lines g c = let p : Setup = g.C.About.setup in let x : ℕ = g.C.About.object in let t : ℕ = g.C.About.target in

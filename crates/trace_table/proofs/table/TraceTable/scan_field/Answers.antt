@@ -6,10 +6,10 @@ use Rattle.trace_core.specs.Views.{hits}
 use Rattle.trace_words.specs.declared.share.Share.{Share}
 use Rattle.trace_words.specs.Shares.{scans_field}
 use Rattle.trace_words.specs.Steps.{AsksFor, IsLast}
-use Rattle.trace_table.specs.Seats.{setup_at, IsScanning}
+use Rattle.trace_table.specs.Seats.{setup_at, IsScanning, MarksNoLine}
 use Rattle.trace_table.proofs.SeatShares.{share-is, seat-same}
 use Rattle.trace_table.proofs.Copyings.{seat-kept}
-use Rattle.trace_table.proofs.FieldScans.{may-scan, still-scanning, next-scanning, held-field, low-field, last-field, room-scanned, keeps-scanned, scans-none, scans-followed, scans-on, others-scanned}
+use Rattle.trace_table.proofs.FieldScans.{may-scan, still-scanning, next-scanning, held-field, low-field, last-field, room-scanned, keeps-scanned, scans-none, scans-followed, scans-on, others-scanned, unmarked-scanned}
 use Rattle.trace_table.proofs.table.TraceTable.scan_field.Goals as goal
 
 pub read_field-reference-requires-clause-may : goal.read_field-reference-requires-clause-may
@@ -112,3 +112,17 @@ pub returns-else-last-reference-clause-others : goal.returns-else-last-reference
 returns-else-last-reference-clause-others g c = let x : ℕ = g.C.About.object in let k : ℕ = g.C.About.index in let v : Share = c.args.seat.now.seat.me.0 in
     let same = c.follow_field-last.ensures.follows.grey ∙ ap (λ (u : Share). u.grey) (share-is _ _ c.read_field-reference.ensures.field.1) in
     others-scanned x k v c.follow_field-last.new.seat.seat.me.0 _ (subst (λ l. 0 < hits x k l) (sym same) c.requires.scanning.right) (share-is _ _ c.scan_field.ensures.share) same
+
+pub returns-then-reference-eq0-clause-unmarked : goal.returns-then-reference-eq0-clause-unmarked
+returns-then-reference-eq0-clause-unmarked g c = let v : Share = c.args.seat.now.seat.me.0 in
+    unmarked-scanned g.C.About.object g.C.About.index v v _ (share-is _ _ c.keep_field.ensures.share ∙ ap (scans_field g.C.About.object g.C.About.index) (share-is _ _ c.read_field-reference.ensures.field.1)) refl
+
+pub returns-then-last-reference-clause-unmarked : goal.returns-then-last-reference-clause-unmarked
+returns-then-last-reference-clause-unmarked g c = let v : Share = c.args.seat.now.seat.me.0 in
+    unmarked-scanned g.C.About.object g.C.About.index v c.follow_field-last.new.seat.seat.me.0 _ (share-is _ _ c.keep_field-then-last-reference.ensures.share)
+    (subst (λ (u : Share). MarksNoLine u c.follow_field-last.new.seat.seat.me.0) (share-is _ _ c.read_field-reference.ensures.field.1) c.follow_field-last.ensures.follows.unmarked)
+
+pub returns-else-last-reference-clause-unmarked : goal.returns-else-last-reference-clause-unmarked
+returns-else-last-reference-clause-unmarked g c = let v : Share = c.args.seat.now.seat.me.0 in
+    unmarked-scanned g.C.About.object g.C.About.index v c.follow_field-last.new.seat.seat.me.0 _ (share-is _ _ c.scan_field.ensures.share)
+    (subst (λ (u : Share). MarksNoLine u c.follow_field-last.new.seat.seat.me.0) (share-is _ _ c.read_field-reference.ensures.field.1) c.follow_field-last.ensures.follows.unmarked)

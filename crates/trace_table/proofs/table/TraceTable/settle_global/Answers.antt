@@ -6,10 +6,10 @@ use Rattle.trace_core.specs.Machine.{ByGlobal}
 use Rattle.trace_words.specs.declared.share.Share.{Share}
 use Rattle.trace_words.specs.Shares.{sets_global}
 use Rattle.trace_words.specs.Steps.{AsksFor, IsLast}
-use Rattle.trace_table.specs.Seats.{IsSetting}
+use Rattle.trace_table.specs.Seats.{IsSetting, MarksNoLine}
 use Rattle.trace_table.proofs.SeatShares.{share-is, seat-on, seat-same}
 use Rattle.trace_table.proofs.FieldScans.{last-field}
-use Rattle.trace_table.proofs.GlobalSets.{still-setting, done-set, room-set, busy-set, sets-none, sets-followed, held-global}
+use Rattle.trace_table.proofs.GlobalSets.{still-setting, done-set, room-set, busy-set, sets-none, sets-followed, held-global, unmarked-set}
 use Rattle.trace_table.proofs.table.TraceTable.settle_global.Goals as goal
 
 pub returns-then-reference-eq0-clause-seat : goal.returns-then-reference-eq0-clause-seat
@@ -89,3 +89,17 @@ returns-then-last-reference-clause-grey g c = ap (λ (u : Share). u.grey) (share
 pub returns-else-last-reference-clause-grey : goal.returns-else-last-reference-clause-grey
 returns-else-last-reference-clause-grey g c = ap (λ (u : Share). u.grey) (share-is _ _ c.set_global.ensures.share)
     ∙ c.follow_global-last.ensures.follows.grey ∙ ap (λ (u : Share). u.grey) (share-is _ _ c.read_global-reference.ensures.global.1)
+
+pub returns-then-reference-eq0-clause-unmarked : goal.returns-then-reference-eq0-clause-unmarked
+returns-then-reference-eq0-clause-unmarked g c = let v : Share = c.args.seat.now.seat.me.0 in
+    unmarked-set g.C.About.index v v _ (share-is _ _ c.keep_global.ensures.share ∙ ap (sets_global g.C.About.index) (share-is _ _ c.read_global-reference.ensures.global.1)) refl
+
+pub returns-then-last-reference-clause-unmarked : goal.returns-then-last-reference-clause-unmarked
+returns-then-last-reference-clause-unmarked g c = let v : Share = c.args.seat.now.seat.me.0 in
+    unmarked-set g.C.About.index v c.follow_global-last.new.seat.seat.me.0 _ (share-is _ _ c.keep_global-then-last-reference.ensures.share)
+    (subst (λ (u : Share). MarksNoLine u c.follow_global-last.new.seat.seat.me.0) (share-is _ _ c.read_global-reference.ensures.global.1) c.follow_global-last.ensures.follows.unmarked)
+
+pub returns-else-last-reference-clause-unmarked : goal.returns-else-last-reference-clause-unmarked
+returns-else-last-reference-clause-unmarked g c = let v : Share = c.args.seat.now.seat.me.0 in
+    unmarked-set g.C.About.index v c.follow_global-last.new.seat.seat.me.0 _ (share-is _ _ c.set_global.ensures.share)
+    (subst (λ (u : Share). MarksNoLine u c.follow_global-last.new.seat.seat.me.0) (share-is _ _ c.read_global-reference.ensures.global.1) c.follow_global-last.ensures.follows.unmarked)

@@ -5,7 +5,7 @@ use Rattle.trace_words.specs.Rule.{SeatShare}
 use Rattle.trace_words.specs.Shares.{both_shares, global_token}
 use Rattle.trace_table.specs.Seats.{setup_at}
 use Rattle.trace_table.proofs.SeatShares.{share-is, seat-on}
-use Rattle.trace_table.proofs.GlobalSets.{begins-setting, scans-set, room-taken, busy-taken, times-here}
+use Rattle.trace_table.proofs.GlobalSets.{begins-setting, scans-set, room-taken, busy-taken, unmarked-global, times-here}
 use Rattle.trace_table.proofs.table.TraceTable.trace_global.Goals as goal
 
 pub settle_global-requires-clause-seat : goal.settle_global-requires-clause-seat
@@ -30,3 +30,7 @@ returns-clause-set c = let i : ℕ = c.args.root.global in
 pub returns-clause-grey : goal.returns-clause-grey
 returns-clause-grey c = let v : Share = c.args.seat.now.seat.me.0 in let i : ℕ = c.args.root.global in
     c.settle_global.ensures.grey ∙ ap (λ (u : Share). u.grey) (share-is _ _ c.take_in.ensures.share ∙ ap (λ (m : SeatShare). both_shares v m.0) c.requires.root.me) ∙ append-nil v.grey
+
+pub returns-clause-unmarked : goal.returns-clause-unmarked
+returns-clause-unmarked c = let v : Share = c.args.seat.now.seat.me.0 in let i : ℕ = c.args.root.global in
+    c.settle_global.ensures.unmarked ∙ unmarked-global i v _ (share-is _ _ c.take_in.ensures.share ∙ ap (λ (m : SeatShare). both_shares v m.0) c.requires.root.me)

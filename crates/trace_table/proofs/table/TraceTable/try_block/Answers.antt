@@ -5,7 +5,7 @@ use Rattle.trace_core.specs.Setups.{Setup, blocks}
 use Rattle.trace_words.specs.declared.share.Share.{Share}
 use Rattle.trace_words.specs.Shares.{sees_busy, takes_after_full}
 use Rattle.trace_table.specs.Seats.{setup_at}
-use Rattle.trace_table.proofs.SeatShares.{share-is, seat-on, seat-taken, room-busy, seen-more}
+use Rattle.trace_table.proofs.SeatShares.{share-is, seat-on, seat-taken, room-busy, looks-taken, seen-more}
 use Rattle.trace_table.proofs.table.TraceTable.try_block.Goals as goal
 
 pub returns-then-word-ne0-clause-seat : goal.returns-then-word-ne0-clause-seat
@@ -46,3 +46,7 @@ returns-clause-seat g c = let b : ℕ = g.C.About.index in let v : Share = c.arg
     seat-taken c.args.self.now c.args.seat.now _ b (let a = c.requires.block.0 in omega arith) s (c.take_block-met.ensures.own ∙ c.look_at_block-word.ensures.own) refl refl
     start (ap (λ m. m + 4096) start) (ap (λ (u : Share). u.parts) is) (ap (λ (u : Share). u.worker) is) (ap (λ (u : Share). u.front) is ∙ begins) (ap (λ (u : Share). u.limit) is ∙ ap (λ m. m + 4096) begins)
     (ap (λ (u : Share). u.filling) is) (ap (λ (u : Share). u.busy) is)
+
+pub returns-clause-looks : goal.returns-clause-looks
+returns-clause-looks g c = looks-taken g.C.About.setup g.C.About.index c.args.seat.now.seat.me.0 _ (share-is _ _ (c.take_block-met.ensures.taken.0 c.if-met-ne0.false)
+    ∙ ap (takes_after_full g.C.About.setup g.C.About.index) (share-is _ _ (c.look_at_block-word.ensures.block.0 c.if-word-ne0.false)))

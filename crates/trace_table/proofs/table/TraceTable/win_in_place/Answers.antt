@@ -5,7 +5,7 @@ use Rattle.object_model.proofs.ObjectReads.{ends_in_row}
 use Rattle.trace_core.specs.Setups.{Setup, TraceMayBegin, size, refs, stays_old}
 use Rattle.trace_words.specs.declared.share.Share.{Share}
 use Rattle.trace_words.specs.Shares.{learns}
-use Rattle.trace_table.proofs.SeatShares.{share-is, seat-on, room-learnt, room-here, looks-learnt, wins-here, young-by}
+use Rattle.trace_table.proofs.SeatShares.{share-is, seat-on, room-learnt, room-here, block-of-room, looks-learnt, wins-here, young-by}
 use Rattle.trace_table.proofs.table.TraceTable.win_in_place.Goals as goal
 
 pub returns-then-met-word-clause-seat : goal.returns-then-met-word-clause-seat
@@ -39,3 +39,9 @@ returns-clause-claims g c = let p : Setup = g.C.About.setup in let x : ℕ = g.C
       start = omega arith;
       within = omega arith;
     })
+
+pub returns-then-met-word-clause-block : goal.returns-then-met-word-clause-block
+returns-then-met-word-clause-block g c = block-of-room c.args.seat.now.seat.me.0 _ (room-learnt g.C.About.object _ c.args.seat.now.seat.me.0 _ (share-is _ _ (c.claim_in_place-met.ensures.claimed.1 c.if-met-word.true).1))
+
+pub returns-clause-block : goal.returns-clause-block
+returns-clause-block g c = block-of-room c.args.seat.now.seat.me.0 _ (room-here g.C.About.setup g.C.About.object g.C.About.cause c.args.seat.now.seat.me.0 _ (share-is _ _ (c.claim_in_place-met.ensures.claimed.0 c.if-met-word.false)))

@@ -5,7 +5,7 @@ use Rattle.trace_core.specs.Setups.{Setup, blocks, size, refs, stays_old}
 use Rattle.trace_words.specs.declared.share.Share.{Share}
 use Rattle.trace_words.specs.Shares.{learns}
 use Rattle.trace_table.specs.Seats.{setup_at}
-use Rattle.trace_table.proofs.SeatShares.{share-is, seat-on, room-learnt, looks-learnt, wins-moved, young-by}
+use Rattle.trace_table.proofs.SeatShares.{share-is, seat-on, room-learnt, block-of-room, looks-learnt, wins-moved, young-by}
 use Rattle.trace_table.proofs.table.TraceTable.win_moved.Goals as goal
 
 pub returns-then-met-word-clause-seat : goal.returns-then-met-word-clause-seat
@@ -52,3 +52,10 @@ returns-clause-claims g c = let p : Setup = g.C.About.setup in let x : ℕ = g.C
       start = (let least : 0 < size p x = omega arith in let a = s.from (omega arith) in omega arith);
       within = omega arith;
     })
+
+pub returns-then-met-word-clause-block : goal.returns-then-met-word-clause-block
+returns-then-met-word-clause-block g c = block-of-room c.args.seat.now.seat.me.0 _ (room-learnt g.C.About.object _ c.args.seat.now.seat.me.0 _ (share-is _ _ (c.claim_and_move-met.ensures.claimed.1 c.if-met-word.true).1))
+
+pub returns-clause-block : goal.returns-clause-block
+returns-clause-block g c = let is = share-is _ _ (c.claim_and_move-met.ensures.claimed.0 c.if-met-word.false) in
+    (ap (λ (u : Share). u.limit) is, ap (λ (u : Share). u.filling) is)
