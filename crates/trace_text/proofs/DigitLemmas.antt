@@ -1,4 +1,4 @@
--- The number of a numeral's digits, and the digits two at a time.
+-- The number of a numeral's digits, and the digits two and four at a time.
 use Rattle.std.proofs.Common.{◌≡◌, refl, sym, ◌∙◌, ap, ℕ, zero, suc, ◌+◌, ◌*◌, ◌/◌, ◌%◌, ◌<◌, ◌≤◌, ◌^◌, List, [], ◌∷◌, ◌++◌, length, get_or, append_assoc, arith}
 use Rattle.std.specs.Fmt.{decimal}
 use Rattle.std.proofs.lemmas.Fmt.{length-decimal-le, decimal_digit, decimal_step}
@@ -66,5 +66,14 @@ pub pair_more : (old front new : List ℕ) (n : ℕ) → 100 ≤ n → n < 2 ^ 6
 pair_more old front new n large small before appended =
     let pair = (48 + n % 100 / 10) ∷ (48 + n % 100 % 10) ∷ [] in
     appended ∙ ap (λ xs. xs ++ pair) before ∙ append_assoc old (decimal (n / 100)) pair ∙ ap (λ digits. old ++ digits) (sym (more_digits n large small))
+
+-- and by its last four
+pub four_more : (front old mid new : List ℕ) (n : ℕ) → 1000000 ≤ n → n < 2 ^ 64 → old ≡ front ++ decimal (n / 10000)
+    → mid ≡ old ++ (48 + n / 100 % 100 / 10) ∷ (48 + n / 100 % 100 % 10) ∷ [] → new ≡ mid ++ (48 + n % 100 / 10) ∷ (48 + n % 100 % 10) ∷ []
+    → new ≡ front ++ decimal n
+four_more front old mid new n large small before first second =
+    let same : n / 10000 ≡ n / 100 / 100 = omega arith in
+    pair_more front mid new n (omega arith) small
+    (pair_more front old mid (n / 100) (omega arith) (omega arith) (before ∙ ap (λ m. front ++ decimal m) same) first) second
 
 pub ruleset numerals_by_digits = (one_digit, two_digits)

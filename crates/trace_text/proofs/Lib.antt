@@ -1,8 +1,10 @@
 mod CommandTexts
 mod DigitLemmas
+mod FirstFour
 mod FirstLines
+mod ManyDigits
 mod NumeralLemmas
-mod PartLemmas
+pub mod PartLemmas
 mod ReaderLemmas
 pub mod ReplyTexts
 mod ShortLines

@@ -15,7 +15,6 @@ use Rattle.trace_text.specs.Words.{all_ops}
 use Rattle.trace_text.specs.Parts.{IsReadAs}
 use Rattle.trace_text.specs.Grammar.{line, lines_from, lines_of, with_header, trace, Gives, parts_at, without_empty_end}
 use Rattle.trace_text.specs.Readers.{with_prefix, end_of_lines, ReadsLines, HasWholeLines, HasRead}
-use Rattle.trace_text.specs.Shortening.{StandsFor}
 use Rattle.trace_text.proofs.WholeLines.{cut_more, keeps_end, ended_parts, some_part}
 
 with_prefix-one : {C : Type 0} (prefix : List C) (c : C) (r : Result (List C) TraceFault) → with_prefix prefix (with_prefix (c ∷ []) r) ≡ with_prefix (prefix ++ c ∷ []) r

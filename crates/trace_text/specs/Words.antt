@@ -1,7 +1,8 @@
 -- The words on a trace's lines, for the reader and the printer.
 use Rattle.std.specs.Prelude.{ℕ, ◌-◌, List, [], ◌∷◌, slice_index, codes}
 use Rattle.trace_text.specs.declared.op.Op.{Op}
-use Rattle.trace_text.specs.declared.op.Op.TheVariants.{New, Get, Put, Read, Write, Add, Swap, Move, DropReg, Load, Share, Pin, Unpin, Gc, Meet}
+use Rattle.trace_text.specs.declared.op.Op.TheVariants.{New, Get, Put, Read, Write, Add, Swap, Move, DropReg, Load}
+use Rattle.trace_text.specs.declared.op.Op.TheVariants.{Share, Pin, Unpin, Gc, Meet}
 use Rattle.ideal_heap.specs.declared.command.Command.{Command}
 use Rattle.ideal_heap.specs.declared.command.Command.TheVariants as c
 use Rattle.ideal_heap.specs.declared.command.TheConstants.{MAX_REGISTER, MAX_GLOBAL, MAX_REFS, MAX_NUMS}

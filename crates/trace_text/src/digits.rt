@@ -1,9 +1,7 @@
 //! Bytes and numerals, appended to a vector that has the capacity for them.
 
-ghost use Rattle.std.specs.Prelude.{◌≡◌, ◌+◌, ◌/◌, ◌%◌, ◌^◌, ◌<◌, ◌≤◌, ◌++◌, ◌∷◌, [], length, vec_len, vec_capacity};
+ghost use Rattle.std.specs.Prelude.{◌≡◌, ◌+◌, ◌/◌, ◌%◌, ◌^◌, ◌<◌, ◌≤◌, ◌++◌, ◌∷◌, [], List, ℕ, length, vec_len, vec_capacity};
 ghost use Rattle.std.specs.Fmt.{decimal};
-
-use itoa::write_digits;
 
 // The most decimal digits of a 64-bit number.
 pub(crate) const MAX_DIGITS: usize = 20;
@@ -105,17 +103,57 @@ fn put_medium(number: u64, to: &mut Vec<u8>)
     }
 }
 
-// Appends the numeral of any number, with an array as a buffer.
+// Appends the last four digits of a number, before which its other digits stand.
+#[inline(always)]
+fn put_last_four(number: u64, to: &mut Vec<u8>)
+    requires least { 1000000 ≤ number }
+    requires room { vec_len to.old + 4 ≤ vec_capacity to.old }
+    ensures items { (front : List ℕ) → to.old.items ≡ front ++ decimal (number / 10000)
+        → to.new.items ≡ front ++ decimal number }
+    ensures len { vec_len to.new ≡ vec_len to.old + 4 }
+    ensures capacity { vec_capacity to.old ≤ vec_capacity to.new }
+{
+    put_pair(number / 100 % 100, to);
+    put_pair(number % 100, to);
+}
+
+// Appends all digits of a number but the last four.
+#[inline(always)]
+fn put_first(number: u64, to: &mut Vec<u8>)
+    requires least { 1000000 ≤ number }
+    requires room { vec_len to.old + 16 ≤ vec_capacity to.old }
+    ensures items { to.new.items ≡ to.old.items ++ decimal (number / 10000) }
+    ensures len { vec_len to.new ≤ vec_len to.old + 16 }
+    ensures capacity { vec_capacity to.old ≤ vec_capacity to.new }
+{
+    if number < 10_000_000_000 {
+        put_medium(number / 10_000, to);
+    } else if number < 100_000_000_000_000 {
+        put_medium(number / 100_000_000, to);
+        put_last_four(number / 10_000, to);
+    } else if number < 1_000_000_000_000_000_000 {
+        put_medium(number / 1_000_000_000_000, to);
+        put_last_four(number / 100_000_000, to);
+        put_last_four(number / 10_000, to);
+    } else {
+        put_small(number / 10_000_000_000_000_000, to);
+        put_last_four(number / 1_000_000_000_000, to);
+        put_last_four(number / 100_000_000, to);
+        put_last_four(number / 10_000, to);
+    }
+}
+
+// Appends the numeral of a number from 1,000,000 on.
 #[inline(always)]
 fn put_long(number: u64, to: &mut Vec<u8>)
+    requires least { 1000000 ≤ number }
     requires room { vec_len to.old + MAX_DIGITS ≤ vec_capacity to.old }
     ensures items { to.new.items ≡ to.old.items ++ decimal number }
     ensures len { vec_len to.new ≤ vec_len to.old + MAX_DIGITS }
     ensures capacity { vec_capacity to.old ≤ vec_capacity to.new }
 {
-    let mut digits = [0; MAX_DIGITS];
-    let start = write_digits(number, &mut digits, MAX_DIGITS);
-    put(&digits[start..], to);
+    put_first(number, to);
+    put_last_four(number, to);
 }
 
 // Appends the numeral of a number.

@@ -11,6 +11,7 @@ mod laws;
 mod limits;
 mod line_reader;
 mod lines;
+mod many_digits;
 mod numerals;
 mod op;
 mod printer;
