@@ -1,22 +1,15 @@
 -- The places of the objects that are reachable from registers and globals.
-use Rattle.std.proofs.Common.{◌≡◌, ◌≢◌, refl, sym, ◌∙◌, ap, ap₂, subst, ℕ, suc, ◌+◌, ◌<◌, ◌≤◌, ◌^◌, inl, inr, arith, List, [], ◌∷◌, ◌++◌, length, slice_index, slice_index_or, nat_eq, IsTrue, true}
-use Rattle.std.specs.Prelude.{sum_by}
-use Rattle.std.specs.List.{All, AllPairs, Contains, flat_map, list_any}
+use Rattle.std.proofs.Common.{◌≡◌, refl, sym, ◌∙◌, ap, subst, ℕ, ◌+◌, ◌<◌, inl, inr, arith, List, [], ◌∷◌, ◌++◌, length, slice_index, slice_index_or, IsTrue}
+use Rattle.std.specs.List.{All, Contains, flat_map}
 use Rattle.std.proofs.lemmas.List.{get_or_past, get_or-map, length-map}
-use Rattle.std.proofs.lemmas.List.Sums.{sum_by-cons}
-use Rattle.std.proofs.lemmas.Bool.{cases_lt, eqb-true}
-use Rattle.std.proofs.lemmas.Bool.Decides.{Decides-eqb}
-use Rattle.std.proofs.lemmas.Map.Made.{IsDistinct-from_AllPairs}
-use Rattle.std.proofs.lemmas.Map.Steps.{length-le_from_distinct_below}
-use Rattle.std.proofs.lemmas.Map.Views.{Contains-from_any}
-use Rattle.heap_layout.specs.Zones.{row_words, IsAddress}
+use Rattle.std.proofs.lemmas.Bool.{cases_lt}
+use Rattle.heap_layout.specs.Zones.{IsAddress}
 use Rattle.ideal_heap.specs.declared.name.Name.{Name}
 use Rattle.ideal_heap.specs.Names.{IsBefore, name}
-use Rattle.object_model.specs.Objects.{HeapState, IsHeld, name_at, size_at, is_reference}
+use Rattle.object_model.specs.Objects.{HeapState, IsHeld, name_at, is_reference}
 use Rattle.object_model.specs.declared.heap.Heap.{Heap}
 use Rattle.object_model.specs.Heaps.{heap_state}
 use Rattle.object_model.specs.Lawful.{IsLawful, IsRoot, AreRoots}
-use Rattle.object_model.specs.Counting.{count_words_at}
 use Rattle.object_model.specs.Graphs as graphs
 use Rattle.object_model.specs.Graphs.{IsReachable, roots_of}
 use Rattle.heap_graph.specs.declared.place.Place.{Place}

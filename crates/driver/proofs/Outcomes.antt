@@ -8,14 +8,14 @@ use Rattle.ideal_heap.specs.declared.command.Command.{Command}
 use Rattle.command_line.specs.Words.{Job, Work, Files, Made}
 use Rattle.command_line.specs.Orders.{job_of_order, texts}
 use Rattle.command_line.specs.declared.order.Order.{Order}
-use Rattle.outside.specs.Outside.{SinkState, HasRisen, AppendsText, AppendsPrefix}
+use Rattle.outside.specs.Outside.{SinkState, AppendsText}
 use Rattle.sessions.specs.Plans.{Plan}
 use Rattle.sessions.specs.Sessions.{Moment}
 use Rattle.driver.specs.Texts.{IsReport, IsSessionText, IsSummary, map_part, replies_part, report_part}
 use Rattle.driver.specs.declared.writing.PrintFault.{PrintFault}
 use Rattle.driver.specs.declared.writing.PrintFault.TheVariants as fault
 use Rattle.driver.specs.Writing.{WritesTextBy}
-use Rattle.driver.specs.Printed.{Content, files_in, IsTextOf, IsWholeText, AreKnown, AreTracesOf, EndsAtFile, EndsAtKnown, Prints, PrintsPrefix}
+use Rattle.driver.specs.Printed.{Content, files_in, IsTextOf, IsWholeText, AreKnown, AreTracesOf, EndsAtFile, EndsAtKnown, Prints}
 use Rattle.driver.proofs.JoinedFiles.{IsOffTrace, traces-clash, reported-clash}
 
 -- what holds of the job holds of the job that the arguments name, if they name one
@@ -61,10 +61,6 @@ text-of-made job count n last text work is = subst (λ (w : Work). IsTextOf job 
 pub prints : (content : Content) (job : Job) (ts : List (List Command)) (text : List ℕ) (before after : SinkState)
     → AreTracesOf content job.work ts → IsWholeText job ts text → AppendsText before.written after.written text → Prints content job before after
 prints content job ts text before after read printed written = record { traces = ts; read = read; text = text; printed = printed; written = written }
-
-pub prints-prefix : (content : Content) (job : Job) (ts : List (List Command)) (text : List ℕ) (before after : SinkState)
-    → AreTracesOf content job.work ts → IsWholeText job ts text → AppendsPrefix before.written after.written text → HasRisen before.faults after.faults → PrintsPrefix content job before after
-prints-prefix content job ts text before after read printed written risen = record { traces = ts; read = read; text = text; printed = printed; written = written; risen = risen }
 
 -- what is written is a text of which more holds
 pub writes-by : (r : Result (Unit {0}) PrintFault) (Is Was : List ℕ → Type 0) (before after : SinkState) → ((text : List ℕ) → Is text → Was text)

@@ -7,7 +7,8 @@ use Rattle.outside.specs.Outside.{Asked, SourceState, SinkState}
 use Rattle.driver.specs.declared.status.Status.{Status}
 use Rattle.driver.specs.declared.status.Status.TheVariants as status
 use Rattle.driver.specs.Statuses.{status_number}
-use Rattle.driver.specs.Printed.{job_files, Prints, PrintsPrefix, AsksFirst, AsksPrefix, Unread, IsTooLong, IsBad, IsUsage, WritesFaultLine, usage_line, write_line, memory_line}
+use Rattle.driver.specs.Printed.{job_files, Prints, PrintsPrefix, AsksFirst, AsksPrefix, Unread, IsTooLong, IsBad}
+use Rattle.driver.specs.Printed.{IsUsage, WritesFaultLine, usage_line, write_line, memory_line}
 
 -- the status if the system gives no arguments: out of memory if it reports that, else usage: an
 -- argument is not UTF-8

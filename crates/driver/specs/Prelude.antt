@@ -3,12 +3,18 @@ pub use Rattle.command_line.specs.Orders.{job_of_order, texts}
 pub use Rattle.command_line.specs.Words.{Files, Job, Made, Work, job_of}
 pub use Rattle.driver.specs.Exits.{IsExit, IsReported, Ran, refusal, refusal_line}
 pub use Rattle.driver.specs.LiveNames.{AreLiveNames, count_words_named, heap_alone, ideal_live_line, record_size}
-pub use Rattle.driver.specs.Printed.{AreTraces, AreTracesOf, AsksFirst, AsksPrefix, Content, EndsAtKnown, HasFault, HasTraces, IsBad, IsLong, IsNoTrace, IsTooLong, IsTraceIn, IsUsage, IsWholeText, IsWithinLimits, Prints, PrintsPrefix, Unread, WritesFaultLine, fault_line, file_line, job_files, line_fault, long_line, memory_line, setting_of, unread_line, usage_line, why_word, write_line}
+pub use Rattle.driver.specs.Printed.{AreTraces, AreTracesOf, AsksFirst, AsksPrefix, Content, EndsAtKnown, HasFault}
+pub use Rattle.driver.specs.Printed.{HasTraces, IsBad, IsLong, IsNoTrace, IsTooLong, IsTraceIn, IsUsage, IsWholeText}
+pub use Rattle.driver.specs.Printed.{IsWithinLimits, Prints, PrintsPrefix, Unread, WritesFaultLine, fault_line}
+pub use Rattle.driver.specs.Printed.{file_line, job_files, line_fault, long_line, memory_line, setting_of, unread_line}
+pub use Rattle.driver.specs.Printed.{usage_line, why_word, write_line}
 pub use Rattle.driver.specs.MapPlaces.{AreDisjoint, IsMapOf, LiesInBlocks}
 pub use Rattle.driver.specs.Reading.{AsksName, Halts, IsOneOf, fault_line_of, status_of}
 pub use Rattle.driver.specs.Reports.{place_in, session_lines}
 pub use Rattle.driver.specs.Statuses.{status_number}
-pub use Rattle.driver.specs.Texts.{AreLive, IsReport, IsSessionText, IsSummary, MapPlace, counts_part, held_line, kinds_line, live_line, map_line, map_part, place_line, place_of, replies_part, report_part, summary_part}
+pub use Rattle.driver.specs.Texts.{AreLive, IsReport, IsSessionText, IsSummary, MapPlace, counts_part, held_line}
+pub use Rattle.driver.specs.Texts.{kinds_line, live_line, map_line, map_part, place_line, place_of, replies_part}
+pub use Rattle.driver.specs.Texts.{report_part, summary_part}
 pub use Rattle.driver.specs.WorkedEnds.{each_kind, worked_end}
 pub use Rattle.driver.specs.WorkedReach.{place_at, worked_ideal, worked_map, worked_names, worked_trace}
 pub use Rattle.driver.specs.declared.status.Status.{Status}

@@ -10,7 +10,8 @@ use Rattle.driver.specs.declared.status.Status.TheVariants as status
 use Rattle.driver.specs.declared.traces.FileFault.{FileFault}
 use Rattle.driver.specs.declared.traces.FileFault.TheVariants as file
 use Rattle.driver.specs.declared.traces.FilesFault.{FilesFault}
-use Rattle.driver.specs.Printed.{AsksFirst, EndsAtFile, IsAny, IsLong, HasFault, unread_line, long_line, fault_line, memory_line}
+use Rattle.driver.specs.Printed.{AsksFirst, EndsAtFile, IsAny, IsLong, HasFault, unread_line, long_line, fault_line}
+use Rattle.driver.specs.Printed.{memory_line}
 
 -- why a file that was not read has no trace
 abbrev pub reading_fault : ReadFault → FileFault

@@ -1,5 +1,6 @@
 -- The text of a session: the replies of each mutator, the report, and the map.
-use Rattle.std.specs.Prelude.{◌≡◌, ℕ, ◌<◌, ◌↔◌, Bool, List, [], ◌++◌, length, count_by, slice_index, codes, if◌then◌else◌}
+use Rattle.std.specs.Prelude.{◌≡◌, ℕ, ◌<◌, ◌↔◌, Bool, List, [], ◌++◌, length, count_by, slice_index, codes}
+use Rattle.std.specs.Prelude.{if◌then◌else◌}
 use Rattle.std.specs.List.{Any, flat_map, range_with_len}
 use Rattle.std.specs.Fmt.{decimal}
 use Rattle.heap_layout.specs.Zones.{block_at, offset_at}
@@ -12,7 +13,8 @@ use Rattle.object_model.specs.Objects.{HeapState, name_at, size_at}
 use Rattle.object_model.specs.Counting.{held_in, count_words_at, kind_count}
 use Rattle.object_model.specs.Graphs.{IsReachable, roots_of}
 use Rattle.trace_text.specs.Text.{ended, name_text, mutator_text}
-use Rattle.made_trace.specs.Counts.{is_new_reply, is_ref, is_nil, is_num, is_done, is_yes, is_no, is_null, is_range, sum_replied}
+use Rattle.made_trace.specs.Counts.{is_new_reply, is_ref, is_nil, is_num, is_done, is_yes, is_no, is_null, is_range}
+use Rattle.made_trace.specs.Counts.{sum_replied}
 use Rattle.sessions.specs.Plans.{Plan, plan_word}
 use Rattle.sessions.specs.Fitting.{large_of}
 use Rattle.sessions.specs.Sessions.{Moment}

@@ -15,7 +15,6 @@ mod Mapped
 mod Mutators
 mod Numbers
 mod NumbersRead
-mod PartLemmas
 mod PlacesRead
 mod ReadTexts
 mod RepliesRead

@@ -20,7 +20,7 @@ use Rattle.sessions.specs.Plans.{Rules, rules_of}
 use Rattle.sessions.specs.Collecting.{BlockAfter, CollectsIf, IsEmptied, is_defragmented, is_evacuated, is_recyclable, marked_in}
 use Rattle.sessions.specs.Fitting.{class_for}
 use Rattle.sessions.specs.Sessions as sessions
-use Rattle.sessions.specs.Sessions.{CollectsFor, FirstTry, InSession, IsEpoch, MakesCollection, MeetsIf, Moment, OnlyReplies, Places, ServesAll, ServesNeed, Setting, Stopped, UsesBlock, UsesRun, block_of_kind}
+use Rattle.sessions.specs.Sessions.{CollectsFor, FirstTry, InSession, IsEpoch, MakesCollection, MeetsIf, Moment, OnlyReplies, Places, ServesAll, ServesNeed, Setting, UsesBlock, UsesRun, block_of_kind}
 use Rattle.command_line.specs.Orders.{plan_in}
 use Rattle.command_line.specs.declared.order.PlanName.{PlanName}
 use Rattle.command_line.specs.declared.order.PlanName.TheVariants as plans

@@ -1,9 +1,16 @@
 -- A text, read line by line.
 use Rattle.std.proofs.Common.{◌≡◌, ◌∙◌, ap, ℕ, ◌+◌, ◌<◌, arith, ◌&&◌, nat_eq, List, [], ◌∷◌, length, Bool, true, false, Option, Some, None, Ok, Err}
 use Rattle.std.specs.Prelude.{if◌then◌else◌}
+use Rattle.std.specs.List.{count_by}
+use Rattle.std.proofs.lemmas.List.Splits.{length-slice_split}
 use Rattle.trace_text.specs.Grammar.{parts_at}
 use Rattle.heap_picture.specs.Reading.{Begun, Takes, after_line, is_whole, or_fault, parts_from}
-use Rattle.heap_picture.proofs.PartLemmas.{some_part}
+
+-- there is a first part
+some_part : (at : ℕ) (bytes : List ℕ) → 0 < length (parts_at at bytes)
+some_part at bytes =
+    let more : length (parts_at at bytes) ≡ count_by (λ b. nat_eq b at) bytes + 1 = length-slice_split _ bytes in
+    omega arith
 
 line_goes_on : (n : ℕ) (s more : Begun) (line : List ℕ) (parts : List (List ℕ)) → 0 < length parts → after_line s line ≡ Some more
     → parts_from n s (line ∷ parts) ≡ parts_from (n + 1) more parts

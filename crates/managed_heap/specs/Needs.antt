@@ -1,5 +1,6 @@
 -- What a stop does for an object that no mutator could allocate.
-use Rattle.std.specs.Prelude.{◌≡◌, ◌≢◌, ℕ, ◌+◌, ◌<◌, ◌≤◌, ◌^◌, ◌⊎◌, Option, None, Some, List, [], ◌∷◌, ◌++◌, length, slice_get, slice_set}
+use Rattle.std.specs.Prelude.{◌≡◌, ◌≢◌, ℕ, ◌+◌, ◌<◌, ◌≤◌, ◌^◌, ◌⊎◌, Option, None, Some, List, [], ◌∷◌, ◌++◌, length}
+use Rattle.std.specs.Prelude.{slice_get, slice_set}
 use Rattle.ideal_heap.specs.declared.command.Command.TheVariants as c
 use Rattle.ideal_heap.specs.declared.reply.Reply.{Reply}
 use Rattle.ideal_heap.specs.declared.reply.Reply.TheVariants as r

@@ -9,9 +9,11 @@ pub use Rattle.heap_users.specs.Beginnings.{MayUse}
 pub use Rattle.heap_users.specs.Users.{mutator_state}
 pub use Rattle.ideal_heap.specs.Runs.{Entry}
 pub use Rattle.ideal_heap.specs.declared.command.TheConstants.{MAX_MUTATORS}
-pub use Rattle.managed_heap.specs.Needs.{AddsBirths, AddsNeed, IfRefused, IsNoteOfLast, MakesRoomAtStop, MayAllocate, MutatorAllocatesAt, NotesLast, Settles, WritesNeed, born_in}
+pub use Rattle.managed_heap.specs.Needs.{AddsBirths, AddsNeed, IfRefused, IsNoteOfLast, MakesRoomAtStop, MayAllocate}
+pub use Rattle.managed_heap.specs.Needs.{MutatorAllocatesAt, NotesLast, Settles, WritesNeed, born_in}
 pub use Rattle.managed_heap.specs.Spots.{IsPlaceForSize, IsSpot, RelistsSpot, TakesSpot, TakesSpotBlock}
-pub use Rattle.managed_heap.specs.Stopped.{EndsEpoch, HasCollected, HeapStandsAt, IsHeapInOrder, IsManaged, IsStopped, collections_of, counted, moment_of, parts_of}
+pub use Rattle.managed_heap.specs.Stopped.{EndsEpoch, HasCollected, HeapStandsAt, IsHeapInOrder, IsManaged, IsStopped}
+pub use Rattle.managed_heap.specs.Stopped.{collections_of, counted, moment_of, parts_of}
 pub use Rattle.managed_heap.specs.declared.stopped_heap.StoppedHeap.{StoppedHeap}
 pub use Rattle.mutator_calls.specs.declared.need.Mutator.{Mutator}
 pub use Rattle.object_model.specs.Births.{MakesRun}

@@ -20,7 +20,7 @@ use Rattle.plan_api.specs.declared.cursors.Cursors.{Cursors}
 use Rattle.plan_api.specs.Cursors.{TriesOverflow, PlacesInRegion}
 use Rattle.plain_row.specs.Rows.{mutator_number, births_of, registers_of, seat_at_turn, regions_at_turn, view_of}
 use Rattle.local_allocators.specs.Seats.{ticket_of, block_of}
-use Rattle.local_allocators.specs.MutatorRegions.{FillsLines, cursors_of, GoesOver, KeepsOthers, TriesBlock, LacksBlock, LacksRegions, MayLeaveClass}
+use Rattle.local_allocators.specs.MutatorRegions.{FillsLines, cursors_of, GoesOver, KeepsOthers, TriesBlock, LacksBlock, MayLeaveClass}
 use Rattle.local_allocators.specs.NotedRegions.{regions_of}
 use Rattle.local_allocators.specs.Placing.{IsPlacedIn}
 use Rattle.plain_row.proofs.Turns.{block-one}

@@ -1,5 +1,5 @@
 -- A mutator that is held between the steps of an allocation.
-use Rattle.std.proofs.Common.{◌≡◌, ap, ◌∙◌, sym, subst, ℕ, List, [], ◌∷◌, ◌++◌}
+use Rattle.std.proofs.Common.{◌≡◌, ap, ◌∙◌, sym, subst, ℕ, List}
 use Rattle.ideal_heap.specs.Runs.{Entry}
 use Rattle.sessions.specs.Plans.{Rules}
 use Rattle.mutator_rule.specs.declared.racing_row.RacingRow.{RacingRow}
@@ -9,7 +9,6 @@ use Rattle.racing_rooms.specs.Rooms.{UsesOthers}
 use Rattle.racing_mutator.specs.declared.plan_rules.PlanRules.{PlanRules}
 use Rattle.racing_mutator.specs.declared.racing.Racing.{Racing}
 use Rattle.racing_mutator.specs.RacingSeats.{MayCall, IsAtRest, IsReady, HasFlags, Makes, view, local, Holdings, holdings, epoch_of_racing, UsesItsBlocks, HasRooms}
-use Rattle.racing_mutator.specs.SeatLaws.{makes-both}
 
 module _ {P : Type 0} (rules : Rules) (a b : Racing P) (es : List Entry) (made : Makes rules a es b) (row : RacingRow (PlanRules P)) (here : a.row.now ≡ row) where
   pub same-row : b.row.now ≡ row

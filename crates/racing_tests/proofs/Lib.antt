@@ -1,2 +1,3 @@
 mod HeldObjects
+mod NotesHanded
 mod SameNumbers

@@ -10,6 +10,8 @@ mod gates;
 #[cfg(test)]
 mod ideal;
 #[cfg(test)]
+mod notes;
+#[cfg(test)]
 mod orders;
 #[cfg(test)]
 mod private;
@@ -17,6 +19,8 @@ mod private;
 mod races;
 #[cfg(test)]
 mod random;
+#[cfg(test)]
+mod recycling;
 #[cfg(test)]
 mod twins;
 #[cfg(test)]

@@ -14,7 +14,7 @@ use Rattle.object_model.proofs.OneKind.{kind-code, kind-from}
 use Rattle.object_model.proofs.Zeros as zeros
 use Rattle.sessions.specs.Collecting.{CollectsIf, IsEmptied}
 use Rattle.sessions.specs.Sessions as sessions
-use Rattle.sessions.specs.Sessions.{AddsObject, CollectsFor, FirstTry, InSession, IsEpoch, MakesCollection, MeetsIf, Moment, OnlyReplies, Places, PlacesLarge, ServesAll, ServesNeed, Setting, Stopped, UsesBlock, UsesRun, block_of_kind}
+use Rattle.sessions.specs.Sessions.{AddsObject, CollectsFor, FirstTry, InSession, IsEpoch, MakesCollection, MeetsIf, Moment, OnlyReplies, Places, ServesAll, ServesNeed, Setting, UsesBlock, UsesRun, block_of_kind}
 use Rattle.session_counts.specs.Sizes.{own_blocks}
 use Rattle.session_counts.proofs.LargeBlocks.{block-of, owner}
 

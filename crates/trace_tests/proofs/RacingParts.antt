@@ -1,5 +1,5 @@
 -- What workers of a racing trace begin with, after the tokens of globals and of logged objects are taken.
-use Rattle.std.proofs.Common.{◌≡◌, ℕ, List, All, sym, ap, ◌∙◌, subst}
+use Rattle.std.proofs.Common.{◌≡◌, ℕ, List, All, sym, ◌∙◌, subst}
 use Rattle.std.proofs.lemmas.List.Elements.{All-weaker}
 use Rattle.object_model.specs.Objects.{HeapState}
 use Rattle.object_model.specs.Lawful.{IsLawfulButLines, AreRoots}

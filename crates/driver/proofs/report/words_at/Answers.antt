@@ -1,4 +1,4 @@
-use Rattle.std.proofs.Common.{◌≡◌, sym, ◌∙◌, ap, ap₂, ℕ, List, [], ◌∷◌, ◌++◌, ◌+◌, ◌<◌, ◌^◌, arith, take, slice_index}
+use Rattle.std.proofs.Common.{◌≡◌, ◌∙◌, ap, ℕ, List, ◌+◌, arith, take, slice_index}
 use Rattle.std.proofs.lemmas.List.{take_all, take_more}
 use Rattle.object_model.specs.Heaps.{heap_state}
 use Rattle.object_model.specs.Objects.{HeapState, size_at}

@@ -1,4 +1,4 @@
-use Rattle.std.proofs.Common.{◌≡◌, sym, subst, ◌≤◌, arith, ap, List, length}
+use Rattle.std.proofs.Common.{◌≡◌, subst, ◌≤◌, arith, ap, List, length}
 use Rattle.ideal_heap.specs.declared.command.Command.{Command}
 use Rattle.sessions.proofs.Soundness.{session-sound}
 use Rattle.sessions.proofs.StopSteps.{session-blocks}

@@ -1,4 +1,4 @@
-use Rattle.std.proofs.Common.{◌≡◌, sym, ◌∙◌, subst, rules, ℕ, List}
+use Rattle.std.proofs.Common.{◌≡◌, sym, ◌∙◌, subst, ℕ, List}
 use Rattle.std.specs.Prelude.{◌⊎◌}
 use Rattle.command_line.specs.Orders.{texts, job_of_order}
 use Rattle.driver.specs.declared.status.Status.TheVariants as status
@@ -6,7 +6,7 @@ use Rattle.driver.specs.Printed.{job_files, WritesFaultLine}
 use Rattle.driver.proofs.Ends.{one-of, not-ok, not-usage, not-unwritten, unread-end, long-end, bad-end, memory-end, long-status, bad-status, good-status}
 use Rattle.driver.proofs.Jobs.{job-blocks, job-work, job-workers}
 use Rattle.driver.proofs.JoinedFiles.{long-off, bad-off}
-use Rattle.driver.proofs.Outcomes.{of-job, named-job, traces-clash-of, prints, prints-prefix}
+use Rattle.driver.proofs.Outcomes.{of-job, named-job, traces-clash-of}
 use Rattle.driver.proofs.runs.run.Goals as goal
 
 pub write_files_fault-requires : goal.write_files_fault-requires

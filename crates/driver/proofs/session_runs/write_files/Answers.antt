@@ -1,4 +1,4 @@
-use Rattle.std.proofs.Common.{◌≡◌, rules, sym, ◌∙◌, ap, subst, ℕ, List, ◌++◌, length, Err}
+use Rattle.std.proofs.Common.{rules, sym, ◌∙◌, ap, subst, ℕ, List, ◌++◌, length, Err}
 use Rattle.std.proofs.lemmas.Result.{err_from_is_err_and}
 use Rattle.driver.specs.Texts.{IsReport, IsSessionText, replies_part}
 use Rattle.driver.specs.Writing.{WritesTextBy}

@@ -1,4 +1,4 @@
-use Rattle.std.proofs.Common.{◌≡◌, rules, sym, ◌∙◌, ap, subst, ℕ, List, Err}
+use Rattle.std.proofs.Common.{rules, sym, ◌∙◌, ap, subst, ℕ, List, Err}
 use Rattle.std.proofs.lemmas.Result.{err_from_is_err_and}
 use Rattle.driver.specs.Texts.{IsSummary}
 use Rattle.driver.specs.Writing.{WritesTextBy}

@@ -1,4 +1,4 @@
-use Rattle.std.proofs.Common.{◌≡◌, sym, subst, arith, ℕ, ◌+◌, ◌<◌, List, length}
+use Rattle.std.proofs.Common.{sym, subst, arith, ℕ, ◌+◌, ◌<◌, List, length}
 use Rattle.ideal_heap.specs.declared.reply.Reply.{Reply}
 use Rattle.ideal_heap.specs.Runs.{replies_of}
 use Rattle.trace_text.specs.Text.{mutator_text}

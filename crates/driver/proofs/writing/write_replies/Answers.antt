@@ -1,4 +1,4 @@
-use Rattle.std.proofs.Common.{◌≡◌, sym, ap, subst, arith, suc, ℕ, List, [], ◌∷◌, ◌++◌, drop, length}
+use Rattle.std.proofs.Common.{sym, ap, subst, arith, suc, ℕ, List, [], ◌∷◌, ◌++◌, drop, length}
 use Rattle.std.proofs.lemmas.Grind.{common_steps}
 use Rattle.std.proofs.lemmas.Iterator.Consumers.{YieldsList-from_first, YieldsList-so_far, YieldsList-turn, YieldsList-end}
 use Rattle.trace_text.specs.Text.{mutator_text}

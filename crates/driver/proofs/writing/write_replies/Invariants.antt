@@ -1,4 +1,4 @@
-use Rattle.std.proofs.Common.{◌≡◌, ◌≤◌, vec_len, vec_capacity}
+use Rattle.std.proofs.Common.{◌≤◌, vec_len, vec_capacity}
 use Rattle.trace_text.specs.Text.{mutator_text}
 use Rattle.driver.proofs.Sending.{Sends}
 use Rattle.driver.proofs.writing.write_replies.Given as goal

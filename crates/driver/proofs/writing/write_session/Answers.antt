@@ -1,4 +1,4 @@
-use Rattle.std.proofs.Common.{◌≡◌, length}
+use Rattle.std.proofs.Common.{length}
 use Rattle.outside.proofs.Pieces.{on_err}
 use Rattle.driver.specs.Texts.{replies_part}
 use Rattle.driver.proofs.Sending.{appends-more, prefix-longer, prefix-last, on-ok, on-err}

@@ -1,6 +1,6 @@
 use Rattle.std.proofs.Common.{◌≡◌, ◌∷◌, ◌∙◌, ap, sym, arith, take, nat_eq, get_or}
 use Rattle.std.specs.List.{slice_split}
-use Rattle.heap_picture.proofs.PartLemmas.{found, not_found, range_to_end}
+use Rattle.trace_text.proofs.PartLemmas.{found, not_found, range_to_end}
 use Rattle.heap_picture.proofs.splitter.first_line.Goals as goal
 
 pub returns-then-b-eq10-clause-parts : goal.returns-then-b-eq10-clause-parts

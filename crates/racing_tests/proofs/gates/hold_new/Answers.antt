@@ -1,4 +1,4 @@
-use Rattle.std.proofs.Common.{◌≡◌, ap, ◌∙◌, refl, [], ◌∷◌}
+use Rattle.std.proofs.Common.{refl, []}
 use Rattle.racing_mutator.specs.RacingSeats.{local, holdings}
 use Rattle.racing_mutator.specs.SeatLaws.{makes-both}
 use Rattle.racing_mutator.proofs.Searched.{uses-same}

@@ -1,7 +1,6 @@
-use Rattle.std.proofs.Common.{ℕ, All, Some, sym, subst}
+use Rattle.std.proofs.Common.{All, Some, sym, subst}
 use Rattle.std.proofs.lemmas.List.Elements.{All-pop, All-push, All-weaker}
 use Rattle.object_model.specs.Heaps.{heap_state}
-use Rattle.trace_core.specs.Setups.{Setup}
 use Rattle.trace_words.specs.Steps.{IsDone}
 use Rattle.trace_table.specs.declared.table.WorkerSeat.{WorkerSeat}
 use Rattle.trace_table.specs.Seats.{IsSeat}

@@ -1,4 +1,4 @@
-use Rattle.std.proofs.Common.{◌≡◌, refl, ◌∙◌, ap, ℕ, arith, ◌&&◌, true, List, [], ◌∷◌, length}
+use Rattle.std.proofs.Common.{◌≡◌, refl, ◌∙◌, ap, ℕ, arith, true, List, [], ◌∷◌, length}
 use Rattle.std.proofs.lemmas.Bool.{and_parts}
 use Rattle.object_model.specs.Objects.{HeapState}
 use Rattle.object_model.specs.Heaps.{heap_state}

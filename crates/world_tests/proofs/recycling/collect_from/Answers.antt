@@ -1,5 +1,4 @@
 use Rattle.std.proofs.Common.{sym, subst}
-use Rattle.object_model.specs.Objects.{HeapState}
 use Rattle.object_model.specs.Heaps.{heap_state}
 use Rattle.object_model.specs.declared.heap.Heap.{Heap}
 use Rattle.sessions.proofs.CollectedMoments.{remembers-after-collection}

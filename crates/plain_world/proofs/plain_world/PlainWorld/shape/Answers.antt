@@ -1,5 +1,5 @@
 -- The register of the mutator at the place holds the address of a held object.
-use Rattle.std.proofs.Common.{◌≡◌, sym, ◌∙◌, ap, subst, Option}
+use Rattle.std.proofs.Common.{sym, ◌∙◌, ap, subst, Option}
 use Rattle.std.specs.Prelude.{slice_index}
 use Rattle.object_model.specs.Objects.{IsHeld, nums_at, refs_at, state_of}
 use Rattle.mutator_calls.specs.declared.need.Mutator.{Mutator}
